@@ -1,0 +1,21 @@
+-- The table of cases holds, each row by computation; only "to any budget" is by induction.
+use mathlib.Core.Path.{_≡_, refl, ap}
+use Prim.Native.Nat.{ℕ, zero, suc}
+use mathlib.Core.List.{List, [], _∷_}
+use Rattle.rules.specs.declared.Status.the-variants.{Spent}
+use Rattle.rules.specs.Instruction.{jump}
+use Rattle.rules.specs.Run.{runs}
+use Rattle.rules.specs.Cases.{Cases, Beside}
+use Rattle.rules.proofs.Computes.{computes}
+
+for-ever : (budget : ℕ) → (runs (jump 1 ∷ []) [] [] budget .steps ≡ budget) × (runs (jump 1 ∷ []) [] [] budget .status ≡ Spent) × (runs (jump 1 ∷ []) [] [] budget .mem .logged ≡ 0)
+unfolding computes
+for-ever zero = (refl, refl, refl)
+for-ever (suc b) = let h = for-ever b in (ap suc (h .0), h .1, h .2)
+
+pub table : Cases × Beside
+unfolding computes Cases Beside
+table = (
+  (refl, refl, refl, refl, for-ever, refl, refl, refl, refl, refl, refl, refl, refl, refl, refl, refl, refl, refl, refl, refl, refl, refl),
+  (refl, refl, refl, refl, refl, refl, refl, refl, refl, refl, refl, refl, refl, refl, refl, refl, refl, refl, refl),
+)
