@@ -3,18 +3,22 @@
 --     one, more    one record, where it has its room; a writer's records behind those written before
 --     Written      the invariant of a loop that writes the groups of records 1 to n, each into the rest: after i of them
 --     start, room-for, turn, finish     at the start; the next group has its room; one group more; at the end
+--     singles      groups of one record each
+--     copied, rec-getD, rec-drop, each-records     the records that a loop reads by their numbers
 use mathlib.Core.Path.{_≡_, refl, sym, ap, _∙_}
-use Prim.Native.Nat.{ℕ, suc, _+_, _-_, _*_, _≤_, _<_}
+use Prim.Native.Nat.{ℕ, zero, suc, _+_, _-_, _*_, _≤_, _<_}
 use native.Mathlib.Numerals.{add-one}
 use native.Mathlib.Omega.{arith}
 use mathlib.Core.List.{List, [], _∷_, _++_, append-nil, append-assoc}
-use lib.ListN.{length, take, drop, length-append, length-drop, drop-of-length-le}
-use lib.Seq.{take-at, drop-at, take-all, drop-drop}
+use lib.ListN.{length, take, drop, getD, length-append, length-drop, drop-of-length-le}
+use lib.Seq.{take-at, drop-at, take-all, drop-drop, drop-cons}
 use borrow.Rule.Slice.PartMut.{putMid}
 use borrow.Author.Tests.{le-leb}
-use Rattle.rules.specs.Record.{Rec, bytesOf}
-use Rattle.rules.proofs.Records.{bytes-append, bytes-length}
-use Rattle.rules.proofs.SecondLevel.{groups, groups-room}
+use Rattle.rules.specs.Record.{Rec, rec, bytesOf, count, records}
+use Rattle.rules.specs.Numbers.{each}
+use Rattle.rules.proofs.Records.{bytes-append, bytes-length, records-length, records-getD, records-at}
+use Rattle.rules.proofs.SecondLevel.{groups, groups-ext, groups-room, each-groups}
+use Rattle.records.specs.Reading.{orNothing, recAt}
 use Rattle.records.specs.Writing.{Put, Wrote}
 
 -- The part that a callee is lent.
@@ -31,11 +35,12 @@ put-rest p g w o ys at k ea ew ey =
     let e : drop (length w - at) (drop at w) ≡ [] = drop-of-length-le (drop at w) l in
     rw (ey, t, e, m, d) (simp (append-nil, append-assoc, drop-drop))
 
-pub one : {r : Rec} {o w : List ℕ} {k : ℕ} → Put r o w k → 8 ≤ length o → Wrote (r ∷ []) o w k
-one {r} {o} {w} {k} p room =
-    let e = le-leb 8 (length o) room in
-    let k8 : k ≡ 8 = p .answers ∙ rw e in
-    record { count = k8; holds = rw k8 (p .holds ∙ rw e) }
+-- q is the record that `put_record` was given.
+pub one : {q r : Rec} {o w : List ℕ} {k : ℕ} → q ≡ r → Put r o w k → 8 ≤ length o → Wrote (q ∷ []) o w k
+one {q} {r} {o} {w} {k} e p room =
+    let t = le-leb 8 (length o) room in
+    let k8 : k ≡ 8 = p .answers ∙ rw t in
+    record { count = k8; holds = rw (k8, e) (p .holds ∙ rw t) }
 
 pub more : {rs g : List Rec} {o w ys : List ℕ} {at k : ℕ} → Wrote rs o w at → Wrote g (rest w at) ys k
     → Wrote (rs ++ g) o (putMid at (length w - at) w ys) (at + k)
@@ -69,3 +74,30 @@ module _ {f : ℕ → List Rec} {n : ℕ} {o w : List ℕ} {at i : ℕ} (v : Wri
 
   pub finish : n ≤ i → Wrote (groups f n) o w at
   finish le = let e : i ≡ n = omega (arith, v .done) in rw e at (v .wrote)
+
+pub singles : (g : ℕ → Rec) (n : ℕ) → length (groups (λ i. g i ∷ []) n) ≡ n
+unfolding groups
+singles g zero = refl
+singles g (suc n) = omega (arith, length-append (groups (λ i. g i ∷ []) n) (g (suc n) ∷ []), singles g n)
+
+-- ## The records that a loop reads by their numbers
+
+pub copied : {r : Rec} {k x y : ℕ} → k ≡ r .kind → x ≡ r .x → y ≡ r .y → r ≡ rec k x y
+copied ek ex ey = rw (ek, ex, ey)
+
+module _ (s : List ℕ) where
+  module _ (k : ℕ) (h : k < count s) where
+    pub rec-getD : (z : Rec) → getD (records s) k z ≡ recAt s (suc k)
+    unfolding recAt orNothing
+    rec-getD z = records-getD s k z h ∙ sym (ap orNothing (records-at s k h))
+
+    pub rec-drop : drop k (records s) ≡ recAt s (suc k) ∷ drop (suc k) (records s)
+    rec-drop =
+        drop-cons (records s) k (rec 0 0 0) (omega (arith, records-length s))
+        ∙ ap (λ (r : Rec). r ∷ drop (suc k) (records s)) (rec-getD (rec 0 0 0))
+
+  pub each-records : (f : ℕ → Rec → Rec) → each f 1 (records s) ≡ groups (λ i. f i (recAt s i) ∷ []) (count s)
+  each-records f =
+      each-groups f (records s) (rec 0 0 0)
+      ∙ ap (groups _) (records-length s)
+      ∙ groups-ext _ _ (count s) (λ k h. ap (λ (r : Rec). f (suc k) r ∷ []) (rec-getD k h (rec 0 0 0)))
