@@ -1,3 +1,4 @@
 pub mod Computes
 pub mod Records
+pub mod SecondLevel
 pub mod Table
