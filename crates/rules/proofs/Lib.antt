@@ -1,4 +1,5 @@
 pub mod Computes
 pub mod Records
+pub mod Partners
 pub mod SecondLevel
 pub mod Table
