@@ -2,4 +2,5 @@ pub mod Computes
 pub mod Records
 pub mod Partners
 pub mod SecondLevel
+pub mod Instructions
 pub mod Table
