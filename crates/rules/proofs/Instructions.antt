@@ -2,6 +2,7 @@
 --     FitAct, Fit     every number fits: an outside action is at most 999, any other number at most 9,999
 --     Named, fit-named, fit-small     outside actions are at most 1,000; what fits is named, and its record's x and y fit two bytes
 --     decode-encode, decode-encodes     what was encoded is decoded
+--     tabulate, tabulated, kindOf, kindOf-in, decode-kind     the kind of what was decoded, for every kind: a table by its entries
 --     Absolute, accepted-back, accepted-fit     an accepted record of a routine or a base is the record of its instruction, which fits
 --     Faultless, no-fault-at, no-faults, Spare, spare-zero     a file without refusals 3 and 4, record by record
 --     recordsOf-bytes, accepted-bytes, accepted-ops, accepted-records, accepted-file     its bytes are those of its records and of its
@@ -14,10 +15,10 @@ use native.Mathlib.Omega.{arith}
 use mathlib.Core.Bool.{Bool, true, false, not, cond, _&&_, _||_}
 use mathlib.Core.Option.{Option, none, some}
 use mathlib.Core.List.{List, [], _∷_, _++_, map}
-use lib.ListN.{length, take, drop, getD, getElem?, length-drop}
+use lib.ListN.{length, take, drop, getD, getElem?, length-drop, List·getD-map}
 use lib.Seq.{drop-cons, drop-drop}
 use lib.Dec.{eqb, leb}
-use borrow.Author.Tests.{leb-true, eqb-true, not-false, lt-leb, ne-eqb}
+use borrow.Author.Tests.{leb-true, eqb-true, not-false, le-leb, lt-leb, ne-eqb}
 use Rattle.rules.specs.declared.Row.{Row}
 use Rattle.rules.specs.declared.Refusal.{Refusal}
 use Rattle.rules.specs.Record.{Rec, rec, recordBytes, bytesOf, count, recordOf, spareZero, recordsOf, records}
@@ -139,6 +140,40 @@ decode-encode return h = refl
 pub decode-encodes : (L : List Op) → All Named L → map decode (map encode L) ≡ L
 decode-encodes [] h = refl
 decode-encodes (o ∷ os) h = rw (decode-encode o (h .0), decode-encodes os (h .1))
+
+-- ## The kind of what was decoded
+
+-- f of the n numbers from p on, where beyond them f is always z.
+abbrev pub tabulate : {A : Type 0} → (ℕ → A) → ℕ → ℕ → List A
+tabulate f p zero = []
+tabulate f p (suc n) = f p ∷ tabulate f (suc p) n
+
+pub tabulated : {A : Type 0} (f : ℕ → A) (z : A) (p n k : ℕ) → ((j : ℕ) → p + n ≤ j → f j ≡ z) → getD (tabulate f p n) k z ≡ f (k + p)
+tabulated f z p zero k h = sym (h (k + p) (omega arith))
+tabulated f z p (suc n) zero h = rw zero-add
+tabulated f z p (suc n) (suc k) h = rw (suc-add k p, ← add-suc k p) (tabulated f z (suc p) n k (λ j l. h j (omega arith)))
+
+-- A number that is no kind of an instruction decodes to a jump.
+unfoldable pub kindOf : ℕ → ℕ
+kindOf k = cond (names 16 k) k 4
+
+pub kindOf-in : (k : ℕ) → 1 ≤ k → k ≤ 16 → kindOf k ≡ k
+unfolding kindOf names
+kindOf-in zero l h = absurd (omega arith)
+kindOf-in (suc k) l h = rw (le-leb (suc k) 16 h)
+
+kindOf-out : (k : ℕ) → 17 ≤ k → kindOf k ≡ 4
+unfolding kindOf names
+kindOf-out zero h = absurd (omega arith)
+kindOf-out (suc k) h = rw (lt-leb (suc k) 16 h)
+
+kind-table : (k : ℕ) → getD (tabulate kindOf 0 17) k 4 ≡ kindOf k
+kind-table k = tabulated kindOf 4 0 17 k kindOf-out ∙ ap kindOf (add-zero k)
+
+pub decode-kind : (r : Rec) → encode (decode r) .kind ≡ kindOf (r .kind)
+unfolding decode written encode kindOf names
+decode-kind r =
+    sym (List·getD-map (λ o. encode o .kind) (jump 0 ∷ written (actOf (r .x) (r .y)) (r .x) (r .y)) (r .kind) (jump 0)) ∙ kind-table (r .kind)
 
 -- ## Accepted records
 

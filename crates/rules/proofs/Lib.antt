@@ -1,6 +1,7 @@
 pub mod Computes
 pub mod Records
+pub mod Instructions
 pub mod Partners
 pub mod SecondLevel
-pub mod Instructions
+pub mod Length
 pub mod Table

@@ -24,22 +24,13 @@ use Rattle.rules.specs.Nesting.{bracket}
 use Rattle.rules.specs.Partners.{Role, opens, parts, ends, other, roleOf, role, endAt, endFrom, separatorAt, separatorFrom, endOf, separatorOf, opening, isHeader, headerUpTo, headerOf}
 use Rattle.rules.specs.Conditionals.{itsSeparator}
 use Rattle.rules.proofs.Records.{at-getD, recordAt, ops-getD}
+use Rattle.rules.proofs.Instructions.{tabulate, tabulated}
 
 -- ## The role of a record, by its kind
 
 unfoldable pub roleOfKind : Sort → ℕ → Role
 roleOfKind loop k = cond (eqb k 12) opens (cond (eqb k 13) opens (cond (eqb k 14) ends other))
 roleOfKind conditional k = cond (eqb k 8) opens (cond (eqb k 9) opens (cond (eqb k 10) parts (cond (eqb k 11) ends other)))
-
--- f 0 to f (n - 1) in a list, and beyond it always z.
-abbrev tabulate : {A : Type 0} → (ℕ → A) → ℕ → ℕ → List A
-tabulate f p zero = []
-tabulate f p (suc n) = f p ∷ tabulate f (suc p) n
-
-tabulated : {A : Type 0} (f : ℕ → A) (z : A) (p n k : ℕ) → ((j : ℕ) → p + n ≤ j → f j ≡ z) → getD (tabulate f p n) k z ≡ f (k + p)
-tabulated f z p zero k h = sym (h (k + p) (omega arith))
-tabulated f z p (suc n) zero h = rw zero-add
-tabulated f z p (suc n) (suc k) h = rw (suc-add k p, ← add-suc k p) (tabulated f z (suc p) n k (λ j l. h j (omega arith)))
 
 role-beyond : (b : Sort) (k : ℕ) → 17 ≤ k → roleOfKind b k ≡ other
 unfolding roleOfKind
