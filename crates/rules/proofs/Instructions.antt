@@ -2,7 +2,7 @@
 --     FitAct, Fit     every number fits: an outside action is at most 999, any other number at most 9,999
 --     Named, fit-named, fit-small     outside actions are at most 1,000; what fits is named, and its record's x and y fit two bytes
 --     decode-encode, decode-encodes     what was encoded is decoded
---     tabulate, tabulated, kindOf, kindOf-in, decode-kind     the kind of what was decoded, for every kind: a table by its entries
+--     tabulate, tabulated, kindOf, kindOf-in, kindOf-out, decode-kind     the kind of what was decoded, for every kind: a table by its entries
 --     Absolute, accepted-back, accepted-fit     an accepted record of a routine or a base is the record of its instruction, which fits
 --     Faultless, no-fault-at, no-faults, Spare, spare-zero     a file without refusals 3 and 4, record by record
 --     recordsOf-bytes, accepted-bytes, accepted-ops, accepted-records, accepted-file     its bytes are those of its records and of its
@@ -162,7 +162,7 @@ unfolding kindOf names
 kindOf-in zero l h = absurd (omega arith)
 kindOf-in (suc k) l h = rw (le-leb (suc k) 16 h)
 
-kindOf-out : (k : ℕ) → 17 ≤ k → kindOf k ≡ 4
+pub kindOf-out : (k : ℕ) → 17 ≤ k → kindOf k ≡ 4
 unfolding kindOf names
 kindOf-out zero h = absurd (omega arith)
 kindOf-out (suc k) h = rw (lt-leb (suc k) 16 h)

@@ -1,25 +1,35 @@
 -- Lengths.
---     added-header, added-call, added-return, added-other     the places that an instruction adds
+--     places, added-is     the places that an instruction adds: a header or a call 1, a return 6n, any other 0
+--     onceOf, returnOf, added-kind     the same by the kind, for every kind
+--     ones, returns, added-counts, converted-counts     the converted length by the paper's three counts
+--     ones-here, returns-here, added-here     these counts over bytes, from record k + 1 on
 --     converted-length     the converted length is the length of the base
---     labels-length, calls-length, loops-length     of each stage, and at most the converted length
---     ones, returns, converted-counts     the converted length by the paper's three counts
+--     laid-grows, labels-length, labels-room, calls-room, loops-room     no stage is longer than the base
 use mathlib.Core.Path.{_≡_, refl, sym, ap, _∙_, subst}
 use Prim.Native.Nat.{ℕ, zero, suc, _+_, _*_, _≤_, _<_}
+use native.Mathlib.Nat.{add-zero}
 use native.Mathlib.Numerals.{add-one}
 use native.Mathlib.Omega.{arith}
 use mathlib.Core.Bool.{Bool, true, false, cond}
+use mathlib.Core.Option.{Option, none, some}
 use mathlib.Core.List.{List, [], _∷_, _++_, map}
-use lib.ListN.{length}
-use Rattle.rules.specs.Instruction.{Sort, conditional, loop, Op, act, test, jump, label, goto, goto2, header, separator, end, call, return, encode}
-use Rattle.rules.specs.Table.{rows, rowOf}
-use Rattle.rules.specs.Numbers.{at, each}
+use lib.ListN.{length, drop, getD, getElem?, length-append}
+use lib.Dec.{eqb}
+use borrow.Author.Tests.{ne-eqb}
+use Rattle.rules.specs.declared.Row.{Row}
+use Rattle.rules.specs.Record.{count}
+use Rattle.rules.specs.Instruction.{Sort, conditional, loop, Op, act, test, jump, label, goto, goto2, header, separator, end, call, return, encode, ops}
+use Rattle.rules.specs.Table.{routine, rows, rowOf}
+use Rattle.rules.specs.Numbers.{at, each, names}
 use Rattle.rules.specs.Skip.{addedBy, added, addedAll, convertedLength}
-use Rattle.rules.specs.SecondLevel.{Group, members, renumber, sent, laid, removed}
+use Rattle.rules.specs.SecondLevel.{Group, _▹_, members, renumber, sent, laid, removed}
 use Rattle.rules.specs.Labels.{unlabel, labels}
 use Rattle.rules.specs.Calls.{chain, uncall, calls}
 use Rattle.rules.specs.Loops.{unloop, loops}
 use Rattle.rules.specs.Conditionals.{uncond, conditionals}
 use Rattle.rules.specs.Convert.{convert}
+use Rattle.rules.proofs.Records.{recordAt, ops-drop}
+use Rattle.rules.proofs.Instructions.{tabulated, kindOf, kindOf-out, decode-kind}
 use Rattle.rules.proofs.SecondLevel.{each-length}
 
 -- ## The places that an instruction adds
@@ -56,11 +66,108 @@ added-is n (end loop) = omega arith
 added-is n (call k) = omega arith
 added-is n return = omega arith
 
--- ## By the paper's three counts
+-- ## By the paper's three counts: n, one for each of some kinds, and 6n for each return
+
+unfoldable pub onceOf : ℕ → ℕ
+onceOf k = cond (eqb k 8) 1 (cond (eqb k 9) 1 (cond (eqb k 12) 1 (cond (eqb k 13) 1 (cond (eqb k 15) 1 0))))
+
+unfoldable pub returnOf : ℕ → ℕ
+returnOf k = cond (eqb k 16) 1 0
+
+once-beyond : (k : ℕ) → 17 ≤ k → onceOf k ≡ 0
+unfolding onceOf
+once-beyond k h = rw (ne-eqb k 8 (λ e. omega arith), ne-eqb k 9 (λ e. omega arith), ne-eqb k 12 (λ e. omega arith), ne-eqb k 13 (λ e. omega arith), ne-eqb k 15 (λ e. omega arith))
+
+return-beyond : (k : ℕ) → 17 ≤ k → returnOf k ≡ 0
+unfolding returnOf
+return-beyond k h = rw (ne-eqb k 16 (λ e. omega arith))
+
+unfoldable onceIn : Option Row → ℕ
+onceIn none = 0
+onceIn (some w) = w .once
+
+unfoldable eachIn : Option Row → ℕ
+eachIn none = 0
+eachIn (some w) = w .each
+
+at-table : (f : Option Row → ℕ) (ws : List Row) (k : ℕ) → f (at ws k) ≡ getD (f none ∷ map (λ w. f (some w)) ws) k (f none)
+unfolding at
+at-table f ws zero = refl
+at-table f ws (suc k) = by ws k
+  where
+    by : (ws : List Row) (k : ℕ) → f (getElem? ws k) ≡ getD (map (λ w. f (some w)) ws) k (f none)
+    by [] k = refl
+    by (w ∷ ws) zero = refl
+    by (w ∷ ws) (suc k) = by ws k
+
+once-row : (k : ℕ) → onceIn (at rows k) ≡ onceOf k
+unfolding onceIn onceOf rows
+once-row k = at-table onceIn rows k ∙ tabulated onceOf 0 0 17 k once-beyond ∙ ap onceOf (add-zero k)
+
+each-row : (k : ℕ) → eachIn (at rows k) ≡ 6 * returnOf k
+unfolding eachIn returnOf rows
+each-row k = at-table eachIn rows k ∙ tabulated (λ j. 6 * returnOf j) 0 0 17 k (λ j h. omega (arith, return-beyond j h)) ∙ ap (λ (j : ℕ). 6 * returnOf j) (add-zero k)
+
+pub added-kind : (n k : ℕ) → addedBy n (rowOf routine k) ≡ onceOf k + 6 * n * returnOf k
+unfolding rowOf addedBy onceIn eachIn
+added-kind n k = by (at rows k) ∙ omega (arith, once-row k, ap (λ (e : ℕ). e * n) (each-row k))
+  where
+    by : (w : Option Row) → addedBy n w ≡ onceIn w + eachIn w * n
+    by none = omega arith
+    by (some w) = refl
+
+-- What a kind decodes to adds what the kind adds.
+once-kind : (k : ℕ) → onceOf (kindOf k) ≡ onceOf k
+unfolding onceOf kindOf names
+once-kind k =
+    ap (λ (j : ℕ). onceOf (kindOf j)) (sym (add-zero k))
+    ∙ sym (tabulated (λ j. onceOf (kindOf j)) 0 0 17 k (λ j h. ap onceOf (kindOf-out j h)))
+    ∙ tabulated onceOf 0 0 17 k once-beyond
+    ∙ ap onceOf (add-zero k)
+
+return-kind : (k : ℕ) → returnOf (kindOf k) ≡ returnOf k
+unfolding returnOf kindOf names
+return-kind k =
+    ap (λ (j : ℕ). returnOf (kindOf j)) (sym (add-zero k))
+    ∙ sym (tabulated (λ j. returnOf (kindOf j)) 0 0 17 k (λ j h. ap returnOf (kindOf-out j h)))
+    ∙ tabulated returnOf 0 0 17 k return-beyond
+    ∙ ap returnOf (add-zero k)
+
+unfoldable pub ones : List Op → ℕ
+ones [] = 0
+ones (o ∷ os) = onceOf (encode o .kind) + ones os
+
+unfoldable pub returns : List Op → ℕ
+returns [] = 0
+returns (o ∷ os) = returnOf (encode o .kind) + returns os
+
+pub added-counts : (n : ℕ) (L : List Op) → addedAll n L ≡ ones L + 6 * n * returns L
+unfolding addedAll added ones returns
+added-counts n [] = omega arith
+added-counts n (o ∷ os) = omega (arith, added-kind n (encode o .kind), added-counts n os)
+
+pub converted-counts : (L : List Op) → convertedLength L ≡ length L + ones L + 6 * length L * returns L
+unfolding convertedLength
+converted-counts L = omega (arith, added-counts (length L) L)
+
+-- Over bytes, from record k + 1 on.
+module _ (s : List ℕ) (k : ℕ) (h : k < count s) where
+  pub ones-here : ones (drop k (ops s)) ≡ onceOf (getD s (8 * k) 0) + ones (drop (suc k) (ops s))
+  unfolding ones
+  ones-here = ap ones (ops-drop s k h) ∙ rw (decode-kind (recordAt s k), once-kind (getD s (8 * k) 0))
+
+  pub returns-here : returns (drop k (ops s)) ≡ returnOf (getD s (8 * k) 0) + returns (drop (suc k) (ops s))
+  unfolding returns
+  returns-here = ap returns (ops-drop s k h) ∙ rw (decode-kind (recordAt s k), return-kind (getD s (8 * k) 0))
+
+  pub added-here : (n : ℕ) → addedAll n (drop k (ops s)) ≡ onceOf (getD s (8 * k) 0) + 6 * n * returnOf (getD s (8 * k) 0) + addedAll n (drop (suc k) (ops s))
+  added-here n =
+      added-counts n (drop k (ops s))
+      ∙ omega (arith, ones-here, ap (λ (x : ℕ). n * x) returns-here, added-counts n (drop (suc k) (ops s)))
 
 -- ## The length of the base
 
--- what each record counts for: the headers, calls and returns as said, any other 1
+-- What each record counts for: the headers, calls and returns as said, any other 1.
 unfoldable wt : ℕ → ℕ → ℕ → ℕ → Op → ℕ
 wt hc hl k r (act a) = 1
 wt hc hl k r (test v a) = 1
@@ -202,3 +309,31 @@ converted-length L =
     ∙ weigh-laid (uncall (length A)) (wt 2 2 1 1) (wt 2 2 2 (6 * length A + 1)) (w₂ (length A)) (renumber (each (uncall (length A)) 1 A)) 1 A
     ∙ ap (λ (n : ℕ). weigh (wt 2 2 2 (6 * n + 1)) A) (each-length (unlabel L) 1 L)
     ∙ weigh-unlabel (length L) L 1 L
+
+-- ## No stage shortens what it is given, so where the base has room every stage has
+
+pub laid-grows : (f : ℕ → Op → Group) (to : ℕ → ℕ) (p : ℕ) (L : List Op) → length L ≤ length (laid to (each f p L))
+unfolding each laid members
+laid-grows f to p [] = omega arith
+laid-grows f to p (o ∷ os) =
+    omega (arith, length-append (map (sent to) (members (f p o))) (laid to (each f (suc p) os)), one (f p o), laid-grows f to (suc p) os)
+  where
+    one : (g : Group) → 1 ≤ length (map (sent to) (members g))
+    one (x ▹ xs) = omega arith
+
+pub labels-length : (L : List Op) → length (labels L) ≡ length L
+unfolding labels
+labels-length L = each-length (unlabel L) 1 L
+
+module _ (L : List Op) where
+  pub loops-room : length (loops (calls (labels L))) ≤ convertedLength L
+  unfolding convert conditionals removed
+  loops-room = let M = loops (calls (labels L)) in omega (arith, laid-grows (uncond M) (renumber (each (uncond M) 1 M)) 1 M, converted-length L)
+
+  pub calls-room : length (calls (labels L)) ≤ convertedLength L
+  unfolding loops removed
+  calls-room = let M = calls (labels L) in omega (arith, laid-grows (unloop M) (renumber (each (unloop M) 1 M)) 1 M, loops-room)
+
+  pub labels-room : length (labels L) ≤ convertedLength L
+  unfolding convertedLength
+  labels-room = omega (arith, labels-length L)
