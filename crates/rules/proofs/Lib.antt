@@ -1,3 +1,8 @@
 pub mod Computes
+pub mod Records
+pub mod Instructions
+pub mod Partners
+pub mod SecondLevel
+pub mod Length
 pub mod Table
 pub mod Records
