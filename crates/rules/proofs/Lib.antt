@@ -5,4 +5,3 @@ pub mod Partners
 pub mod SecondLevel
 pub mod Length
 pub mod Table
-pub mod Records
