@@ -1,4 +1,7 @@
 // Bytes and records: readers by record number, the one writer of a record, the constant table, and refusals 1 to 4.
+pub mod check;
+pub mod table;
+
 ghost use mathlib.Core.Path.{_≡_};
 ghost use Prim.Native.Nat.{_+_, _*_};
 ghost use lib.ListN.{length, replicate};
