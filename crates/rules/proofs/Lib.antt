@@ -4,4 +4,5 @@ pub mod Instructions
 pub mod Partners
 pub mod SecondLevel
 pub mod Length
+pub mod Runs
 pub mod Table
