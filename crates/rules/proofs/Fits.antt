@@ -2,16 +2,16 @@
 --     all-fit-named, all-fit-small, fit-read, fit-ops     a list that fits is read back from its bytes, whatever follows them
 --     labels-fit, calls-fit, loops-fit, conditionals-fit     each stage fits where what it is given fits and what it gives is short
 --     stages-fit     all of them, where the converted length is at most 4,096
-use mathlib.Core.Path.{_≡_, refl, sym, ap, _∙_, subst}
-use Prim.Native.Nat.{ℕ, zero, suc, _+_, _-_, _≤_, _<_}
+use mathlib.Core.Path.{_≡_, sym, ap, _∙_}
+use Prim.Native.Nat.{ℕ, zero, suc, _+_, _≤_}
 use native.Mathlib.Omega.{arith}
-use mathlib.Core.Bool.{Bool, true, false, not, cond}
+use mathlib.Core.Bool.{Bool, true, false, cond}
 use mathlib.Core.List.{List, [], _∷_, _++_, map, map-append}
 use lib.ListN.{length, drop, length-drop, length-map}
-use Rattle.rules.specs.Record.{Rec, bytesOf, recordsOf, records}
-use Rattle.rules.specs.Instruction.{push, pop, compare, conditional, loop, Op, act, test, jump, label, goto, goto2, header, separator, end, call, return, encode, ops, file, decode}
-use Rattle.rules.specs.Numbers.{each, given, past}
-use Rattle.rules.specs.SecondLevel.{Group, _▹_, members, renumber, sent, laid, removed}
+use Rattle.rules.specs.Record.{bytesOf, recordsOf}
+use Rattle.rules.specs.Instruction.{conditional, loop, Op, act, test, jump, label, goto, goto2, header, separator, end, call, return, encode, ops, file, decode}
+use Rattle.rules.specs.Numbers.{each, given}
+use Rattle.rules.specs.SecondLevel.{Group, members, renumber, sent, laid, removed}
 use Rattle.rules.specs.Skip.{convertedLength}
 use Rattle.rules.specs.Labels.{isLabel, labelFrom, labelAfter, target, target2, unlabel, labels}
 use Rattle.rules.specs.Calls.{chain, uncall, calls}

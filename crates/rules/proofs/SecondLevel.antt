@@ -4,7 +4,7 @@
 --     lowered, stage-groups     what record i becomes, its jumps renumbered; a stage is the groups of these
 --     seconds-groups, renumber-groups, renumber-zero, renumber-out, renumber-in     the place of a group is one more than what stands before it
 --     each-groups     a stage without second level, as groups of one record
-use mathlib.Core.Path.{_≡_, refl, sym, ap, _∙_, subst}
+use mathlib.Core.Path.{_≡_, refl, sym, ap, _∙_}
 use Prim.Native.Nat.{ℕ, zero, suc, _+_, _≤_, _<_}
 use native.Mathlib.Nat.{zero-add, suc-add, add-suc, eq-or-lt-of-le, le-of-suc-le-suc}
 use native.Mathlib.Numerals.{add-one}
