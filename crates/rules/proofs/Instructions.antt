@@ -22,7 +22,9 @@ use borrow.Author.Tests.{leb-true, eqb-true, not-false, le-leb, lt-leb, ne-eqb}
 use Rattle.rules.specs.declared.Row.{Row}
 use Rattle.rules.specs.declared.Refusal.{Refusal}
 use Rattle.rules.specs.Record.{Rec, rec, recordBytes, bytesOf, count, recordOf, spareZero, recordsOf, records}
-use Rattle.rules.specs.Table.{Notation, routine, base, relative, rows, rowOf}
+use Rattle.rules.specs.declared.Notation.{Notation}
+use Rattle.rules.specs.declared.Notation.the-variants.{Routine, Base, Relative}
+use Rattle.rules.specs.Table.{rows, rowOf}
 use Rattle.rules.specs.Numbers.{at, names}
 use Rattle.rules.specs.Instruction.{Act, outside, push, pop, compare, conditional, loop, Op, act, test, jump, label, goto, goto2, header, separator, end, call, return, actOf, written, decode, xOf, yOf, actRec, encode, ops, file}
 use Rattle.rules.specs.Refusals.{when, orElse}
@@ -306,9 +308,9 @@ module _ (x y : ℕ) where
 
 -- Routines and bases hold instructions; a relative base does not.
 abbrev pub Absolute : Notation → Type 0
-Absolute routine = Unit {0}
-Absolute base = Unit {0}
-Absolute relative = ⊥
+Absolute Routine = Unit {0}
+Absolute Base = Unit {0}
+Absolute Relative = ⊥
 
 or-either : (a b : Bool) {P : Type 0} → a || b ≡ true → (a ≡ true → P) → (b ≡ true → P) → P
 or-either true b e f g = f refl
@@ -316,11 +318,11 @@ or-either false b e f g = g e
 
 accepted : (nt : Notation) → Absolute nt → (r : Rec) → fieldFault nt r ≡ false → Of (r .kind) (r .x) (r .y) (decode r)
 unfolding fieldFault rowOf hasStack decode
-accepted routine h r e =
+accepted Routine h r e =
     by-row (r .x) (r .y) rows (each-row (r .x) (r .y)) (r .kind) (r .kind) (or-last (inRow (at rows (r .kind)) r) (not-false _ e))
-accepted base h r e =
+accepted Base h r e =
     or-either (inRow (at (take 4 rows) (r .kind)) r) (stackAction r) (not-false _ e) (by-row (r .x) (r .y) (take 4 rows) (each-four (r .x) (r .y)) (r .kind) (r .kind)) (by-stack (r .x) (r .y) (r .kind))
-accepted relative h r e = absurd h
+accepted Relative h r e = absurd h
 
 pub accepted-back : (nt : Notation) → Absolute nt → (r : Rec) → fieldFault nt r ≡ false → encode (decode r) ≡ r
 accepted-back nt h r e = accepted nt h r e .0

@@ -19,7 +19,8 @@ use borrow.Author.Tests.{ne-eqb}
 use Rattle.rules.specs.declared.Row.{Row}
 use Rattle.rules.specs.Record.{count}
 use Rattle.rules.specs.Instruction.{conditional, loop, Op, act, test, jump, label, goto, goto2, header, separator, end, call, return, encode, ops}
-use Rattle.rules.specs.Table.{routine, rows, rowOf}
+use Rattle.rules.specs.declared.Notation.the-variants.{Routine}
+use Rattle.rules.specs.Table.{rows, rowOf}
 use Rattle.rules.specs.Numbers.{at, each, names}
 use Rattle.rules.specs.Skip.{addedBy, added, addedAll, convertedLength}
 use Rattle.rules.specs.SecondLevel.{Group, _▹_, members, renumber, sent, laid, removed}
@@ -108,7 +109,7 @@ each-row : (k : ℕ) → eachIn (at rows k) ≡ 6 * returnOf k
 unfolding eachIn returnOf rows
 each-row k = at-table eachIn rows k ∙ tabulated (λ j. 6 * returnOf j) 0 0 17 k (λ j h. omega (arith, return-beyond j h)) ∙ ap (λ (j : ℕ). 6 * returnOf j) (add-zero k)
 
-pub added-kind : (n k : ℕ) → addedBy n (rowOf routine k) ≡ onceOf k + 6 * n * returnOf k
+pub added-kind : (n k : ℕ) → addedBy n (rowOf Routine k) ≡ onceOf k + 6 * n * returnOf k
 unfolding rowOf addedBy onceIn eachIn
 added-kind n k = by (at rows k) ∙ omega (arith, once-row k, ap (λ (e : ℕ). e * n) (each-row k))
   where

@@ -12,7 +12,8 @@ use Rattle.rules.specs.declared.Stack.{Stack}
 use Rattle.rules.specs.declared.State.{State}
 use Rattle.rules.specs.declared.Ran.{Ran}
 use Rattle.rules.specs.Record.{Rec, bytesOf, count, records}
-use Rattle.rules.specs.Table.{Notation, routine, base, relative}
+use Rattle.rules.specs.declared.Notation.{Notation}
+use Rattle.rules.specs.declared.Notation.the-variants.{Routine, Base, Relative}
 use Rattle.rules.specs.Instruction.{Op, encode, ops}
 use Rattle.rules.specs.Refusals.{when, whenAt, first, verdict}
 use Rattle.rules.specs.Checks.{recordChecks}
@@ -27,7 +28,7 @@ use Rattle.rules.specs.Run.{Run, run, runs}
 -- ## The checks of each call, in the paper's order: 1, 2, then 3 or 4, then 5, 6, 7, 11, 8, 9, 10, each where the call has that matter
 
 unfoldable pub routineChecks : List ℕ → List (Option Refusal)
-routineChecks s = recordChecks routine s ++ (whenAt Nesting (nesting (ops s)) ∷ whenAt Skip (skip (ops s)) ∷ when (grown (ops s)) Growth ∷ [])
+routineChecks s = recordChecks Routine s ++ (whenAt Nesting (nesting (ops s)) ∷ whenAt Skip (skip (ops s)) ∷ when (grown (ops s)) Growth ∷ [])
 
 -- 8 room: a buffer under 8 bytes per record written.
 unfoldable pub short : ℕ → List ℕ → Bool
@@ -88,10 +89,10 @@ pub record Converted (s out work : List ℕ) (answer : Verdict) (out′ work′ 
 
 -- to_relative(s, out) and to_absolute(s, out)
 unfoldable pub relating : List ℕ → List ℕ → Verdict
-relating s out = verdict (recordChecks base s ++ (when (short (count s) out) Room ∷ [])) (count s)
+relating s out = verdict (recordChecks Base s ++ (when (short (count s) out) Room ∷ [])) (count s)
 
 unfoldable pub absoluting : List ℕ → List ℕ → Verdict
-absoluting s out = verdict (recordChecks relative s ++ (whenAt Far (far (records s)) ∷ when (short (count s) out) Room ∷ [])) (count s)
+absoluting s out = verdict (recordChecks Relative s ++ (whenAt Far (far (records s)) ∷ when (short (count s) out) Room ∷ [])) (count s)
 
 -- The verdict v on a translation that writes rs.
 pub record Translated (v : Verdict) (rs : List Rec) (out : List ℕ) (answer : Verdict) (out′ : List ℕ) : Type 0 where
@@ -139,7 +140,7 @@ unfoldable pub runRoutine : List ℕ → List ℕ → List ℕ → ℕ → Call
 runRoutine s replies log budget = running (routineChecks s) s replies log budget
 
 unfoldable pub runBase : List ℕ → List ℕ → List ℕ → ℕ → Call
-runBase s replies log budget = running (recordChecks base s) s replies log budget
+runBase s replies log budget = running (recordChecks Base s) s replies log budget
 
 -- step_routine(s, replies, log, state) and step_base: the same with budget 1, from a given state; also 10. A refused step hands back
 -- the state it was given.
@@ -155,7 +156,7 @@ unfoldable pub stepRoutine : List ℕ → List ℕ → List ℕ → State → Ca
 stepRoutine s replies log m = stepping (routineChecks s) s replies log m
 
 unfoldable pub stepBase : List ℕ → List ℕ → List ℕ → State → Call
-stepBase s replies log m = stepping (recordChecks base s) s replies log m
+stepBase s replies log m = stepping (recordChecks Base s) s replies log m
 
 -- The contract of all four: the answer, and the log at exit.
 pub record Called (c : Call) (answer : Ran) (log′ : List ℕ) : Type 0 where

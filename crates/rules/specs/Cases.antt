@@ -9,7 +9,7 @@ use Rattle.rules.specs.declared.Status.the-variants.{Ended, StackFull, S
 use Rattle.rules.specs.declared.Outcome.the-variants.{Stopped, TurnedAway}
 use Rattle.rules.specs.declared.Ran.{Ran}
 use Rattle.rules.specs.Record.{rec, bytesOf}
-use Rattle.rules.specs.Table.{base}
+use Rattle.rules.specs.declared.Notation.the-variants.{Base}
 use Rattle.rules.specs.Instruction.{outside, conditional, loop, Op, act, test, jump, label, goto, goto2, header, separator, end, call, return, file}
 use Rattle.rules.specs.Convert.{convert}
 use Rattle.rules.specs.Relative.{toRelative}
@@ -86,7 +86,7 @@ Beside =
     × (checkRoutine (1 ∷ []) ≡ Refused Ragged)
     × (checkRoutine (bytesOf (rec 1 1000 0 ∷ rec 17 0 0 ∷ [])) ≡ Refused (Field 1))
     × (checkRoutine (bytesOf (rec 11 0 0 ∷ rec 17 1 0 ∷ [])) ≡ Refused (Kind 2))
-    × (checkRecords base (bytesOf (rec 1 1001 9999 ∷ rec 2 1002 0 ∷ rec 3 1003 7 ∷ rec 1 1002 1 ∷ [])) ≡ Refused (Field 4))
+    × (checkRecords Base (bytesOf (rec 1 1001 9999 ∷ rec 2 1002 0 ∷ rec 3 1003 7 ∷ rec 1 1002 1 ∷ [])) ≡ Refused (Field 4))
     -- The lowest opener never closed; a second separator doesn't fit.
     × (checkRoutine (file (a 1 ∷ +a⟨ 1 ∷ +a⟨ 2 ∷ end conditional ∷ header loop true (outside 3) ∷ [])) ≡ Refused (Nesting 2))
     × (checkRoutine (file (+a⟨ 1 ∷ separator ∷ separator ∷ end conditional ∷ [])) ≡ Refused (Nesting 3))

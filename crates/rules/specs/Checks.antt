@@ -5,7 +5,9 @@ use Rattle.rules.specs.declared.Refusal.{Refusal}
 use Rattle.rules.specs.declared.Refusal.the-variants.{Ragged, Long, Kind, Field}
 use Rattle.rules.specs.Numbers.{names}
 use Rattle.rules.specs.Record.{Rec, recordOf, spareZero, count}
-use Rattle.rules.specs.Table.{Notation, routine, base, relative, rowOf}
+use Rattle.rules.specs.declared.Notation.{Notation}
+use Rattle.rules.specs.declared.Notation.the-variants.{Routine, Base, Relative}
+use Rattle.rules.specs.Table.{rowOf}
 use Rattle.rules.specs.Refusals.{when, orElse}
 
 -- 1 ragged: the byte count is no multiple of 8.
@@ -14,9 +16,9 @@ ragged s = not (eqb (length s % 8) 0)
 
 -- 2 long: more records than allowed. A routine has 0 to 512 records, a base or relative base 0 to 4,096.
 unfoldable pub most : Notation → ℕ
-most routine = 512
-most base = 4096
-most relative = 4096
+most Routine = 512
+most Base = 4096
+most Relative = 4096
 
 unfoldable pub long : Notation → List ℕ → Bool
 long nt s = ltb (most nt) (count s)
@@ -39,9 +41,9 @@ unfoldable pub stackAction : Rec → Bool
 stackAction r = names 3 (r .kind) && ((eqb (r .x) 1001 || eqb (r .x) 1003) && leb (r .y) 9999 || eqb (r .x) 1002 && eqb (r .y) 0)
 
 unfoldable pub hasStack : Notation → Bool
-hasStack routine = false
-hasStack base = true
-hasStack relative = true
+hasStack Routine = false
+hasStack Base = true
+hasStack Relative = true
 
 unfoldable pub fieldFault : Notation → Rec → Bool
 fieldFault nt r = not (inRow (rowOf nt (r .kind)) r || hasStack nt && stackAction r)

@@ -1,7 +1,8 @@
 -- The places added in the base, refusal 6 and the converted length.
 use Rattle.rules.specs.Words.{ℕ, suc, _+_, _*_, Bool, not, cond, _&&_, _||_, Option, none, some, List, [], _∷_, length, eqb, ltb}
 use Rattle.rules.specs.declared.Row.{Row}
-use Rattle.rules.specs.Table.{routine, rowOf}
+use Rattle.rules.specs.declared.Notation.the-variants.{Routine}
+use Rattle.rules.specs.Table.{rowOf}
 use Rattle.rules.specs.Instruction.{Op, encode}
 
 -- The places that a record adds in the base of a routine of n records: the last column of the table.
@@ -10,7 +11,7 @@ addedBy n none = 0
 addedBy n (some row) = row .once + row .each * n
 
 unfoldable pub added : ℕ → Op → ℕ
-added n o = addedBy n (rowOf routine (encode o .kind))
+added n o = addedBy n (rowOf Routine (encode o .kind))
 
 -- A kind that adds places.
 unfoldable pub adding : Op → Bool

@@ -1,6 +1,8 @@
 -- The table of kinds. Written out singly it has sixteen rows, one for each kind a routine may use. An unlisted field is zero.
 use Rattle.rules.specs.Words.{ℕ, _-_, cond, Option, List, [], _∷_, take, leb}
 use Rattle.rules.specs.declared.Row.{Row}
+use Rattle.rules.specs.declared.Notation.{Notation}
+use Rattle.rules.specs.declared.Notation.the-variants.{Routine, Base, Relative}
 use Rattle.rules.specs.Numbers.{at}
 
 -- The range of a field.
@@ -52,12 +54,9 @@ rows =
 unfoldable pub relativeRows : List Row
 relativeRows = row number unlisted 0 0 ∷ row number unlisted 0 0 ∷ row unlisted unlisted 0 0 ∷ []
 
--- The three notations, and the row of a kind in each: none where the kind is not of the notation. A base holds kinds 1 to 4 only,
+-- The row of a kind in each of the three notations: none where the kind is not of the notation. A base holds kinds 1 to 4 only,
 -- a relative base kinds 1 to 3 and 17 to 19.
-pub data Notation : Type 0 where
-  routine base relative : Notation
-
 unfoldable pub rowOf : Notation → ℕ → Option Row
-rowOf routine k = at rows k
-rowOf base k = at (take 4 rows) k
-rowOf relative k = cond (leb k 3) (at rows k) (at relativeRows (k - 16))
+rowOf Routine k = at rows k
+rowOf Base k = at (take 4 rows) k
+rowOf Relative k = cond (leb k 3) (at rows k) (at relativeRows (k - 16))

@@ -56,6 +56,13 @@ pub struct Ran {
     pub actions: usize,
 }
 
+// The three notations that files are written in.
+pub enum Notation {
+    Routine,
+    Base,
+    Relative,
+}
+
 // A row of the table of kinds: the ranges of x and y, and the places added in the base, once and for each record of the routine.
 pub struct Row {
     pub xmin: u16,

@@ -1,0 +1,21 @@
+use mathlib.Core.Path.{_≡_, sym, ap, _∙_}
+use borrow.Author.Needs.{needs}
+use Rattle.rules.specs.Record.{Rec}
+use Rattle.records.proofs.Reading.{rec-zero, rec-none, rec-at}
+use Rattle.records.proofs.x_at.Statement.{statement}
+use Rattle.records.proofs.x_at.Tie as tie
+
+pub x-at-spec : {M : Type 1} → statement M
+x-at-spec =
+    tie.close
+    (tie.spec
+    (λ c. sym (ap (λ (r : Rec). r .x) (rec-zero _ _ (c .if1 .taken))))
+    (λ c. sym (ap (λ (r : Rec). r .x) (rec-none _ _ (c .if2 .taken))))
+    (λ c. search needs)
+    (λ c. search needs)
+    (λ c. search needs)
+    (λ c. search needs)
+    (λ c. search needs)
+    (λ c. search needs)
+    (λ c κs. search needs)
+    (λ c. c .number .ensures ∙ sym (ap (λ (r : Rec). r .x) (rec-at _ _ (c .before .before .before .before .if1 .left) (c .before .before .before .if2 .left)))))

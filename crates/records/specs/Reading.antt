@@ -1,0 +1,12 @@
+-- A record of a file by its number.
+use Rattle.rules.specs.Words.{ℕ, zero, suc, _+_, _*_, Option, none, some, List, drop}
+use Rattle.rules.specs.Numbers.{at}
+use Rattle.rules.specs.Record.{Rec, rec, records}
+
+-- Record number i of the file; kind, x and y are 0 where there is none.
+unfoldable pub orNothing : Option Rec → Rec
+orNothing none = rec 0 0 0
+orNothing (some r) = r
+
+unfoldable pub recAt : List ℕ → ℕ → Rec
+recAt s i = orNothing (at (records s) i)
