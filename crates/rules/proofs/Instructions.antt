@@ -1,5 +1,5 @@
 -- Instructions and their records.
---     FitAct, Fit     every number fits: an outside action is at most 999, any other number at most 9,999
+--     Holds, FitAct, Fit     every number fits: an outside action is at most 999, any other number at most 9,999
 --     Named, fit-named, fit-small     outside actions are at most 1,000; what fits is named, and its record's x and y fit two bytes
 --     decode-encode, decode-encodes     what was encoded is decoded
 --     tabulate, tabulated, kindOf, kindOf-in, kindOf-out, decode-kind     the kind of what was decoded, for every kind: a table by its entries
@@ -34,7 +34,7 @@ use Rattle.rules.proofs.Records.{All, Bytes, bytes-drop, Small}
 -- ## Numbers that fit
 
 -- A is true of the action, N of every other number.
-abbrev Holds : (Act → Type 0) → (ℕ → Type 0) → Op → Type 0
+abbrev pub Holds : (Act → Type 0) → (ℕ → Type 0) → Op → Type 0
 Holds A N (act a) = A a
 Holds A N (test v a) = A a
 Holds A N (jump k) = N k
