@@ -4,4 +4,6 @@ pub mod Instructions
 pub mod Partners
 pub mod SecondLevel
 pub mod Length
+pub mod Fits
+pub mod Runs
 pub mod Table
