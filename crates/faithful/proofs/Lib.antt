@@ -8,3 +8,4 @@ pub mod Loops
 pub mod Conditionals
 pub mod Labels
 pub mod Demand
+pub mod Grammar
