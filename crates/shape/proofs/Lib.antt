@@ -1,2 +1,3 @@
 pub mod Searching
 pub mod Targets
+pub mod Bodies
