@@ -9,3 +9,4 @@ pub mod Conditionals
 pub mod Labels
 pub mod Demand
 pub mod Grammar
+pub mod Partners

@@ -39,9 +39,12 @@ pub from-drop : {L : List Op} {k : ℕ} {os : List Op} → From L k os → drop 
 from-drop whole = refl
 from-drop {L} (next {k} t) = drop-tail k L ∙ ap tail (from-drop t)
 
-pub from-at : {L : List Op} {k : ℕ} {o : Op} {os : List Op} → From L k (o ∷ os) → at L (suc k) ≡ some o
+pub drop-at : (k : ℕ) (L : List Op) (o : Op) (os : List Op) → drop k L ≡ o ∷ os → at L (suc k) ≡ some o
 unfolding at
-from-at {L} {k} t = drop-head k L ∙ ap head? (from-drop t)
+drop-at k L o os e = drop-head k L ∙ ap head? e
+
+pub from-at : {L : List Op} {k : ℕ} {o : Op} {os : List Op} → From L k (o ∷ os) → at L (suc k) ≡ some o
+from-at {L} {k} t = drop-at k L _ _ (from-drop t)
 
 pub from-length : {L : List Op} {k : ℕ} {os : List Op} → From L k os → k + length os ≡ length L
 from-length whole = omega arith
@@ -203,16 +206,18 @@ seek-body {at} S b y d k os = body-over (seeker at S b) y d k os
 
 -- ## To the left: s d is the header of the item that is open d items out
 
-unfoldable pub heads : Sort → (ℕ → ℕ) → ℕ → List Op → ℕ → ℕ
+pub back-one : {L : List Op} {k : ℕ} (b : Sort) {o : Op} {os : List Op} → From L k (o ∷ os) → (d : ℕ) → back b L (suc k) d ≡ backAt (role b o) d (suc k) (λ e. back b L k e)
+unfolding back roleAt
+back-one {L} {k} b t d = ap (λ (y : Option Op). backAt (roleAt b y) d (suc k) (λ e. back b L k e)) (from-at t)
+
+heads : Sort → (ℕ → ℕ) → ℕ → List Op → ℕ → ℕ
 heads b s k [] = s
 heads b s k (o ∷ os) = heads b (λ d. backAt (role b o) d k s) (suc k) os
 
-pub back-over : {L : List Op} {k : ℕ} (b : Sort) (xs os : List Op) → From L k (xs ++ os) → (λ d. back b L (over xs k) d) ≡ heads b (λ d. back b L k d) (suc k) xs
-unfolding heads back roleAt
+back-over : {L : List Op} {k : ℕ} (b : Sort) (xs os : List Op) → From L k (xs ++ os) → (λ d. back b L (over xs k) d) ≡ heads b (λ d. back b L k d) (suc k) xs
+unfolding heads
 back-over b [] os t = refl
-back-over {L} {k} b (x ∷ xs) os t =
-    back-over b xs os (next t)
-    ∙ ap (λ (s : ℕ → ℕ). heads b s (suc (suc k)) xs) (fun-ext (λ d. ap (λ (y : Option Op). backAt (roleAt b y) d (suc k) (λ e. back b L k e)) (from-at t)))
+back-over {L} {k} b (x ∷ xs) os t = back-over b xs os (next t) ∙ ap (λ (s : ℕ → ℕ). heads b s (suc (suc k)) xs) (fun-ext (λ d. back-one b t d))
 
 pub header-of : {L : List Op} {k : ℕ} {o : Op} {os : List Op} → From L k (o ∷ os) → (b : Sort) → role b o ≡ ends → headerOf b L (suc k) ≡ back b L k 0
 header-of {L} {k} {o} t b e =
@@ -278,6 +283,9 @@ header-reader b = record {
     turn conditional s h k os = refl
     turn loop s h k os = refl
 
-pub heads-body : (b : Sort) {xs : List Op} → Body xs → (s : ℕ → ℕ) (k : ℕ) → heads b s k xs ≡ s
+heads-body : (b : Sort) {xs : List Op} → Body xs → (s : ℕ → ℕ) (k : ℕ) → heads b s k xs ≡ s
 unfolding header-reader heads
 heads-body b {xs} y s k = ap (heads b s k) (sym (append-nil xs)) ∙ body-over (header-reader b) y s k []
+
+pub back-body : {L : List Op} {k : ℕ} (b : Sort) {xs : List Op} (os : List Op) → Body xs → From L k (xs ++ os) → (d : ℕ) → back b L (over xs k) d ≡ back b L k d
+back-body {L} {k} b {xs} os y t d = ap (λ (s : ℕ → ℕ). s d) (back-over b xs os t ∙ heads-body b y (λ e. back b L k e) (suc k))

@@ -24,11 +24,11 @@ use Rattle.rules.specs.Step.{Deed, ask, leap, deed, Mem, perform, Out, go, halt
 use Rattle.rules.specs.Run.{startOf}
 use Rattle.rules.proofs.Records.{at-getD, at-none}
 use Rattle.rules.proofs.SecondLevel.{each-length}
-use Rattle.rules.proofs.Partners.{backAt, roleAt, back}
+use Rattle.rules.proofs.Partners.{backAt, back}
 use Rattle.rules.proofs.Computes.{computes}
 use Rattle.faithful.proofs.Places.{in-or-out, over, over-suc, over-length, ahead, ahead-out, place, move-in, move-out, move-place, move-renumber}
 use Rattle.faithful.proofs.Simulation.{Sim, simulated, Meets, cost, linkCost, asked, leapt, jumped, opened, called}
-use Rattle.faithful.proofs.Reading.{From, whole, next, from-at, from-length, from-of, from-over, Seeks, seeks-end, seeks-separator, seek, seek-body, end-of, separator-of, heads, heads-body, back-over, header-of, header-found}
+use Rattle.faithful.proofs.Reading.{From, whole, next, from-at, from-length, from-of, from-over, Seeks, seeks-end, seeks-separator, seek, seek-body, end-of, separator-of, back-one, back-body, header-of, header-found}
 use Rattle.faithful.proofs.Chain.{sent-chain, chain-body, Arrives, chain-runs}
 
 -- ## What may stand in a list between two stages
@@ -171,6 +171,10 @@ back-sent P parts d k on on′ h = h d
 back-sent P ends d k on on′ h = h (suc d)
 back-sent P other d k on on′ h = h d
 
+back-other : (d k : ℕ) (r : Role) (on : ℕ → ℕ) → r ≡ other → on d ≡ backAt r d (suc k) on
+unfolding backAt
+back-other d k r on e = ap (λ (x : Role). backAt x d (suc k) on) (sym e)
+
 -- ## The stage
 
 module _ (k : ℕ) (small : k ≤ 2) (f : ℕ → Op → Group) (L : List Op) (good : Good (suc k) L) (turns : (i : ℕ) (o : Op) → rank o ≤ suc k → Turns L k i o (f i o)) where
@@ -242,21 +246,20 @@ module _ (k : ℕ) (small : k ≤ 2) (f : ℕ → Op → Group) (L : List Op) (g
               ∙ ap (λ (q : ℕ). P (past q)) (sym (ap (λ (x : Role). find x d (suc j) (λ e. seek find b e (suc (suc j)) os)) r ∙ S .other-passes d (suc j) _))
 
     to-left : {j : ℕ} {os : List Op} → From L j os → (d : ℕ) → back b L′ (A j) d ≡ P (back b L j d)
-    unfolding back backAt roleAt heads laid each
+    unfolding back laid each
     to-left whole d = refl
     to-left (next {k = j} {o = o} {os = os} t) d =
-        let xs = map (sent Q) (members (f (suc j) o)) in
-        ap (λ (q : ℕ). back b L′ q d) (ahead-next t ∙ sym (over-sent Q (members (f (suc j) o)) (A j)))
-        ∙ ap (λ (s : ℕ → ℕ). s d) (back-over b xs (laidFrom (suc j) os) (along t))
-        ∙ by xs (turn-reads b kept Q (turns-from t)) (λ e. to-left t e)
-        ∙ ap (λ (x : Option Op). P (backAt (roleAt b x) d (suc j) (λ e. back b L j e))) (sym (from-at t))
+        by (map (sent Q) (members (f (suc j) o))) (turn-reads b kept Q (turns-from t)) (ahead-next t ∙ sym (over-sent Q (members (f (suc j) o)) (A j))) (along t) (λ e. to-left t e)
+        ∙ ap P (sym (back-one b t d))
       where
-        by : (xs : List Op) → Reads b o xs → ((e : ℕ) → back b L′ (A j) e ≡ P (back b L j e)) → heads b (λ e. back b L′ (A j) e) (suc (A j)) xs d ≡ P (backAt (role b o) d (suc j) (λ e. back b L j e))
-        by xs (same {x = x} r) ih = rw r (back-sent P (role b o) d (suc j) (λ e. back b L j e) (λ e. back b L′ (A j) e) ih)
-        by xs (nothing-of r y) ih =
-            ap (λ (s : ℕ → ℕ). s d) (heads-body b y (λ e. back b L′ (A j) e) (suc (A j)))
-            ∙ ih d
-            ∙ ap P (ap (λ (x : Role). backAt x d (suc j) (λ e. back b L j e)) (sym r))
+        by : (xs : List Op) → Reads b o xs → A (suc j) ≡ over xs (A j) → From L′ (A j) (xs ++ laidFrom (suc j) os) → ((e : ℕ) → back b L′ (A j) e ≡ P (back b L j e))
+            → back b L′ (A (suc j)) d ≡ P (backAt (role b o) d (suc j) (λ e. back b L j e))
+        by xs (same {x = x} r) w u ih =
+            ap (λ (q : ℕ). back b L′ q d) w ∙ back-one b u d
+            ∙ rw r (back-sent P (role b o) d (suc j) (λ e. back b L j e) (λ e. back b L′ (A j) e) ih)
+        by xs (nothing-of r y) w u ih =
+            ap (λ (q : ℕ). back b L′ q d) w ∙ back-body b (laidFrom (suc j) os) y u d
+            ∙ ih d ∙ ap P (back-other d j (role b o) (λ e. back b L j e) r)
 
   -- ## Partners, there and here: record j + 1, whose group is one record
 

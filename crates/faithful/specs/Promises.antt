@@ -3,11 +3,14 @@ use mathlib.Core.Path.{_≡_}
 use mathlib.Core.Logic.{_⊎_, _↔_}
 use Prim.Native.Nat.{ℕ, suc, _+_, _*_, _≤_, _<_}
 use mathlib.Core.Bool.{Bool, true, false}
+use mathlib.Core.Option.{Option, none, some}
 use mathlib.Core.List.{List, [], _∷_, _++_}
-use lib.ListN.{length}
+use lib.ListN.{length, drop}
 use Rattle.rules.specs.Instruction.{Act, Sort, conditional, loop, Op, header, separator, end}
-use Rattle.rules.specs.Nesting.{Item, item, nesting}
+use Rattle.rules.specs.Numbers.{at}
+use Rattle.rules.specs.Nesting.{alone, bracket, Item, item, nesting}
 use Rattle.rules.specs.WellBuilt.{Body}
+use Rattle.rules.specs.Partners.{endOf, separatorOf, headerOf}
 use Rattle.rules.specs.Skip.{skip}
 use Rattle.rules.specs.Convert.{convert}
 use Rattle.rules.specs.Step.{Mem, go, step}
@@ -71,3 +74,36 @@ pub data Place5 (L : List Op) : ℕ → Type 0 where
 -- Refusal 5 is absent exactly if the whole routine is one body, and has the place p exactly if p is that place. (proofs/Grammar)
 abbrev pub Grammar : Type 0
 Grammar = (L : List Op) → (nesting L ≡ 0 ↔ Body L) × ((p : ℕ) → nesting L ≡ suc p ↔ Place5 L (suc p))
+
+-- ## Partners
+
+-- An item of the grammar stands in L behind its first j records: the item's sort, the numbers of its header, of its separator (0 where
+-- it has none) and of its end.
+pub data Stands (L : List Op) : Sort → ℕ → ℕ → ℕ → Type 0 where
+  loop-item : {j : ℕ} {v : Bool} {a : Act} {body : List Op} (rest : List Op) → drop j L ≡ header loop v a ∷ (body ++ (end loop ∷ rest)) → Body body
+      → Stands L loop (suc j) 0 (suc (length body + suc j))
+  one-arm : {j : ℕ} {v : Bool} {a : Act} {body : List Op} (rest : List Op) → drop j L ≡ header conditional v a ∷ (body ++ (end conditional ∷ rest)) → Body body
+      → Stands L conditional (suc j) 0 (suc (length body + suc j))
+  two-arms : {j : ℕ} {v : Bool} {a : Act} {one two : List Op} (rest : List Op)
+      → drop j L ≡ header conditional v a ∷ (one ++ (separator ∷ (two ++ (end conditional ∷ rest)))) → Body one → Body two
+      → Stands L conditional (suc j) (suc (length one + suc j)) (suc (length two + suc (length one + suc j)))
+
+-- The numbers that stages and steps use are those.
+pub record Partnered (L : List Op) (b : Sort) (h k e : ℕ) : Type 0 where
+  pub its-end : endOf b L h ≡ e
+  pub its-header : headerOf b L e ≡ h
+  pub its-separator : b ≡ conditional → separatorOf L h ≡ k
+  pub separator-end : (i : ℕ) → k ≡ suc i → endOf conditional L k ≡ e
+
+-- Record i is an item alone, or the header, the separator or the end of an item that stands in L.
+pub data Belongs (L : List Op) (i : ℕ) : Op → Type 0 where
+  by-itself : {o : Op} → bracket o ≡ alone → Belongs L i o
+  as-header : {b : Sort} {v : Bool} {a : Act} (k e : ℕ) → Stands L b i k e → Belongs L i (header b v a)
+  as-separator : (h e : ℕ) → Stands L conditional h i e → Belongs L i separator
+  as-end : {b : Sort} (h k : ℕ) → Stands L b h k i → Belongs L i (end b)
+
+-- Wherever an item of the grammar stands, its partners are the grammar's; and in a routine that is one body every record belongs to
+-- one. (proofs/Partners)
+abbrev pub Partners : Type 0
+Partners =
+    (L : List Op) → ((b : Sort) (h k e : ℕ) → Stands L b h k e → Partnered L b h k e) × (Body L → (i : ℕ) (o : Op) → at L i ≡ some o → Belongs L i o)
