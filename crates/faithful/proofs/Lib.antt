@@ -10,3 +10,4 @@ pub mod Labels
 pub mod Demand
 pub mod Grammar
 pub mod Partners
+pub mod Audit
