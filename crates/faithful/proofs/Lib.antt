@@ -10,3 +10,5 @@ pub mod Labels
 pub mod Demand
 pub mod Grammar
 pub mod Partners
+pub mod Accepted
+pub mod Base
