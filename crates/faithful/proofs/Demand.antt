@@ -8,7 +8,7 @@ use mathlib.Core.Option.{Option, none, some}
 use mathlib.Core.List.{List, [], _∷_}
 use lib.ListN.{length, getElem?}
 use Rattle.rules.specs.declared.Status.{Status}
-use Rattle.rules.specs.Instruction.{Op, act, test, jump, label, goto, goto2, header, separator, end, call, return, conditional, loop}
+use Rattle.rules.specs.Instruction.{Op, act, test, jump, label, goto, goto2, header, separator, end, call, return, conditional, loop, ops}
 use Rattle.rules.specs.Numbers.{at, each}
 use Rattle.rules.specs.Skip.{skip}
 use Rattle.rules.specs.Labels.{labels}
@@ -20,8 +20,10 @@ use Rattle.rules.specs.Stack.{fresh, top, equals}
 use Rattle.rules.specs.Step.{Mem, Reply, did, stops, perform, Out, go, halt, agree, step}
 use Rattle.rules.specs.Run.{andThen, after, why, startOf, freshMem, Run, stopped, oneMore, onward, run, runs}
 use Rattle.rules.specs.Cases.{there-and-back}
+use Rattle.rules.proofs.Records.{ops-length}
 use Rattle.rules.proofs.Computes.{computes}
-use Rattle.faithful.specs.Promises.{Follows, Demand3, RunFollows, Demand3Run}
+use Rattle.faithful.specs.Promises.{Follows, Demand3, RunFollows, Demand3Run, Demand3File}
+use Rattle.faithful.proofs.Accepted.{Held, Admitted, admitted}
 use Rattle.faithful.proofs.Places.{place}
 use Rattle.faithful.proofs.Simulation.{forkCost, linkCost, cost, costOf, costAt, Way, stay, on, Sim, both, lift, at-in}
 use Rattle.faithful.proofs.Stage.{rank, Good, Staged}
@@ -41,7 +43,7 @@ placeOf L k =
     place (each (uncond C) 1 C) (place (each (unloop B) 1 B) (place (each (uncall (length A)) 1 A) k))
 
 then : {k k′ : ℕ} {L M N : List Op} {P Q : ℕ → ℕ} → Staged k L M P → Staged k′ M N Q → Staged k′ L N (λ i. Q (P i))
-then {Q} s t = record { sim = both (s .sim) (t .sim); good = t .good; starts = t .starts ∙ ap Q (s .starts) }
+then {Q} s t = record { sim = both (s .sim) (t .sim); good = t .good; starts = t .starts ∙ ap Q (s .starts); numbers = λ h. t .numbers (s .numbers h) }
 
 pub converted : (L : List Op) → skip L ≡ 0 → Staged 0 L (convert L) (placeOf L)
 unfolding convert placeOf
@@ -230,6 +232,16 @@ demand3-run L a replies log b h =
       at-most = d .at-most;
       same = λ larger x. run-of (convert L) (d .count) larger (startOf (convert L)) (freshMem replies log) (d .place) (r .mem) (r .status) (d .same) (stop-halt _ _ (d .alike ∙ ap why (k .1))) x;
     }
+
+-- ## Of an accepted file
+
+pub demand3-file : Demand3File
+demand3-file f n e replies log =
+    let a = admitted f n e in
+    let l : length (ops f) ≡ n = ops-length f ∙ a .records .counted in (
+      λ s i m g. subst (λ (k : ℕ). Follows k (ops f) replies log s i m) l (demand3 (ops f) (a .allowed) replies log s i m g),
+      λ b h. subst (λ (k : ℕ). RunFollows k (ops f) replies log b) l (demand3-run (ops f) (a .allowed) replies log b h),
+    )
 
 -- ## At work: the 5 steps of the paper's 36-record case are 14 of its base
 

@@ -18,17 +18,17 @@ use Rattle.rules.specs.Conditionals.{itsSeparator}
 use Rattle.rules.specs.Labels.{target, target2, unlabel, labels}
 use Rattle.rules.specs.Step.{Deed, leap, ask, deed, Mem, Out, does, stepAt, step}
 use Rattle.rules.specs.Run.{startOf}
-use Rattle.rules.proofs.Records.{at-getD, at-none, at-zero}
+use Rattle.rules.proofs.Records.{All, at-getD, at-none, at-zero}
 use Rattle.rules.proofs.SecondLevel.{each-getD}
 use Rattle.rules.proofs.Length.{labels-length}
 use Rattle.rules.proofs.Computes.{computes}
 use Rattle.faithful.proofs.Places.{in-or-out}
 use Rattle.faithful.proofs.Simulation.{cost, costOf, costAt, Sim, stay, first}
-use Rattle.faithful.proofs.Stage.{rank, Calm, Good, Staged}
+use Rattle.faithful.proofs.Stage.{rank, Calm, Good, Numbered, Staged}
 
 module _ (L : List Op) where
   -- What is alike of labels, gotos and jumps is alike of a record and what it becomes.
-  unlabel-alike : {A : Type 0} (h : Op → A) → ((x s : ℕ) → h (jump x) ≡ h (label s)) → ((x s : ℕ) → h (jump x) ≡ h (goto s)) → ((x s t : ℕ) → h (jump x) ≡ h (goto2 s t))
+  unlabel-alike {ℓ} : {A : Type ℓ} (h : Op → A) → ((x s : ℕ) → h (jump x) ≡ h (label s)) → ((x s : ℕ) → h (jump x) ≡ h (goto s)) → ((x s t : ℕ) → h (jump x) ≡ h (goto2 s t))
       → (i : ℕ) (o : Op) → h (unlabel L i o) ≡ h o
   unfolding unlabel
   unlabel-alike h e f g i (act a) = refl
@@ -169,6 +169,11 @@ module _ (L : List Op) where
       by true q e k = absurd (omega arith)
       by false q e k = (low (suc p) o, rw (plain-alike (suc p) o) (calm-next (plainTest o) (suc (suc p)) x os q), k e)
 
+  numbered : (p : ℕ) (os : List Op) → All Numbered os → All Numbered (each (unlabel L) p os)
+  unfolding each
+  numbered p [] h = tt
+  numbered p (o ∷ os) h = (subst (λ (X : Type 0). X) (sym (unlabel-alike Numbered (λ x s. refl) (λ x s. refl) (λ x s t. refl) p o)) (h .0), numbered (suc p) os (h .1))
+
   pub labels-staged : skip L ≡ 0 → Staged 3 L (labels L) (λ i. i)
   unfolding skip labels startOf
-  labels-staged e = record { sim = sim; good = good-from 0 L e; starts = ap (λ (n : ℕ). moveTo n 1) (labels-length L) }
+  labels-staged e = record { sim = sim; good = good-from 0 L e; starts = ap (λ (n : ℕ). moveTo n 1) (labels-length L); numbers = numbered 1 L }

@@ -11,3 +11,5 @@ pub mod Demand
 pub mod Grammar
 pub mod Partners
 pub mod Audit
+pub mod Accepted
+pub mod Base

@@ -7,10 +7,10 @@ use native.Mathlib.Nat.{zero-add, add-zero}
 use native.Mathlib.Omega.{arith}
 use mathlib.Core.Bool.{Bool, true, false, not, cond}
 use mathlib.Core.Option.{Option, none, some}
-use mathlib.Core.List.{List, [], _∷_, _++_, map}
+use mathlib.Core.List.{List, [], _∷_, _++_, map, map-append}
 use lib.ListN.{length, getElem?}
 use lib.Dec.{T, leb, leb→le}
-use Rattle.rules.specs.Instruction.{Act, push, Sort, conditional, loop, Op, act, test, jump, label, goto, goto2, header, separator, end, call, return}
+use Rattle.rules.specs.Instruction.{Act, outside, push, pop, compare, Sort, conditional, loop, Op, act, test, jump, label, goto, goto2, header, separator, end, call, return}
 use Rattle.rules.specs.Numbers.{at, each, given, past, moveTo}
 use Rattle.rules.specs.Nesting.{bracket}
 use Rattle.rules.specs.WellBuilt.{Body, nothing, single}
@@ -22,7 +22,7 @@ use Rattle.rules.specs.Calls.{chain}
 use Rattle.rules.specs.Stack.{top}
 use Rattle.rules.specs.Step.{Deed, ask, leap, deed, Mem, perform, Out, go, halt, leaving, does}
 use Rattle.rules.specs.Run.{startOf}
-use Rattle.rules.proofs.Records.{at-getD, at-none}
+use Rattle.rules.proofs.Records.{All, all-append, at-getD, at-none}
 use Rattle.rules.proofs.SecondLevel.{each-length}
 use Rattle.rules.proofs.Partners.{backAt, back}
 use Rattle.rules.proofs.Computes.{computes}
@@ -61,11 +61,32 @@ abbrev pub Good : ℕ → List Op → Type 0
 Good k [] = Unit {0}
 Good k (o ∷ os) = (rank o ≤ k) × Calm (plainTest o) os × Good k os
 
--- What a stage gives: a simulation, a list without the next rank, and the same beginning.
+-- Outside actions are numbered from 1 on.
+abbrev pub FromOne : Act → Type 0
+FromOne (outside n) = 1 ≤ n
+FromOne (push y) = Unit {0}
+FromOne pop = Unit {0}
+FromOne (compare y) = Unit {0}
+
+abbrev pub Numbered : Op → Type 0
+Numbered (act a) = FromOne a
+Numbered (test v a) = FromOne a
+Numbered (jump k) = Unit {0}
+Numbered (label s) = Unit {0}
+Numbered (goto s) = Unit {0}
+Numbered (goto2 s t) = Unit {0}
+Numbered (header b v a) = FromOne a
+Numbered separator = Unit {0}
+Numbered (end b) = Unit {0}
+Numbered (call k) = Unit {0}
+Numbered return = Unit {0}
+
+-- What a stage gives: a simulation, a list without the next rank, the same beginning, and no new outside actions.
 pub record Staged (k : ℕ) (L L′ : List Op) (P : ℕ → ℕ) : Type 0 where
   pub sim : Sim L L′ P
   pub good : Good k L′
   pub starts : startOf L′ ≡ P (startOf L)
+  pub numbers : All Numbered L → All Numbered L′
 
 -- ## What a stage that leaves the ranks up to k makes of record i
 
@@ -77,7 +98,7 @@ pub data Turns (L : List Op) (k i : ℕ) : Op → Group → Type 0 where
   returns : 1 ≤ k → Turns L k i return (chain (length L))
 
 -- Sending a jump on changes nothing but its number.
-sent-alike : {A : Type 0} (h : Op → A) → ((x y : ℕ) → h (jump x) ≡ h (jump y)) → (to : ℕ → ℕ) (o : Op) → h (sent to o) ≡ h o
+sent-alike {ℓ} : {A : Type ℓ} (h : Op → A) → ((x y : ℕ) → h (jump x) ≡ h (jump y)) → (to : ℕ → ℕ) (o : Op) → h (sent to o) ≡ h o
 unfolding sent
 sent-alike h e to (act a) = refl
 sent-alike h e to (test v a) = refl
@@ -141,6 +162,19 @@ chain-good : (k : ℕ) → 1 ≤ k → (to : ℕ → ℕ) (j : ℕ) (os : List O
 unfolding computes
 chain-good k h to zero os g = (zero-le, tt, g)
 chain-good k h to (suc j) os g = subst (Good k) (sym (sent-chain to j os)) (h, tt, (zero-le, tt, (zero-le, tt, (h, tt, chain-good k h to j (end conditional ∷ os) (h, tt, g)))))
+
+chain-numbered : (to : ℕ → ℕ) (j : ℕ) → All Numbered (map (sent to) (members (chain j)))
+unfolding members sent chain
+chain-numbered to zero = (tt, tt)
+chain-numbered to (suc j) = (tt, (tt, (tt, (tt, rw (map-append (sent to) (members (chain j)) (end conditional ∷ [])) (all-append Numbered (map (sent to) (members (chain j))) (end conditional ∷ []) (chain-numbered to j) (tt, tt))))))
+
+turn-numbered : {L : List Op} {k i : ℕ} {o : Op} {g : Group} (to : ℕ → ℕ) → Turns L k i o g → Numbered o → All Numbered (map (sent to) (members g))
+unfolding members sent
+turn-numbered to (keeps {o = o} r) h = (subst (λ (X : Type 0). X) (sym (sent-alike Numbered (λ x y. refl) to o)) h, tt)
+turn-numbered to (leaps d c ot) h = (tt, tt)
+turn-numbered to (forks r d) h = (h, (tt, tt))
+turn-numbered to calls h = (tt, (tt, tt))
+turn-numbered {L} to (returns r) h = chain-numbered to (length L)
 
 -- ## What a group is to the items of a sort that stays: one record of the same role, or a body for a record that is none of theirs
 
@@ -402,6 +436,11 @@ module _ (k : ℕ) (small : k ≤ 2) (f : ℕ → Op → Group) (L : List Op) (g
   good-laid p [] g = tt
   good-laid p (o ∷ os) g = good-group (f p o) (turns p o (g .0)) (laid Q (each f (suc p) os)) (calm-laid (plainTest o) (suc p) os (g .2) (g .1)) (good-laid (suc p) os (g .2))
 
+  numbered-laid : (p : ℕ) (os : List Op) → Good (suc k) os → All Numbered os → All Numbered (laid Q (each f p os))
+  unfolding laid each
+  numbered-laid p [] g h = tt
+  numbered-laid p (o ∷ os) g h = all-append Numbered (map (sent Q) (members (f p o))) (laid Q (each f (suc p) os)) (turn-numbered Q (turns p o (g .0)) (h .0)) (numbered-laid (suc p) os (g .2) (h .1))
+
   pub staged : Staged k L (removed gs) P
   unfolding removed startOf
-  staged = record { sim = sim; good = good-laid 1 L good; starts = goes 1 }
+  staged = record { sim = sim; good = good-laid 1 L good; starts = goes 1; numbers = numbered-laid 1 L good }

@@ -6,15 +6,18 @@ use mathlib.Core.Bool.{Bool, true, false}
 use mathlib.Core.Option.{Option, none, some}
 use mathlib.Core.List.{List, [], _∷_, _++_}
 use lib.ListN.{length, drop}
-use Rattle.rules.specs.Instruction.{Act, Sort, conditional, loop, Op, header, separator, end}
+use Rattle.rules.specs.declared.Notation.the-variants.{Base}
+use Rattle.rules.specs.declared.Verdict.the-variants.{Accepted}
+use Rattle.rules.specs.Instruction.{Act, Sort, conditional, loop, Op, header, separator, end, encode, ops, file}
 use Rattle.rules.specs.Numbers.{at}
 use Rattle.rules.specs.Nesting.{alone, bracket, Item, item, nesting}
 use Rattle.rules.specs.WellBuilt.{Body}
 use Rattle.rules.specs.Partners.{endOf, separatorOf, headerOf}
-use Rattle.rules.specs.Skip.{skip}
+use Rattle.rules.specs.Skip.{skip, convertedLength}
 use Rattle.rules.specs.Convert.{convert}
 use Rattle.rules.specs.Step.{Mem, go, step}
 use Rattle.rules.specs.Run.{startOf, freshMem, after, why, Run, runs}
+use Rattle.rules.specs.Answers.{checkRecords, checkRoutine}
 
 -- ## Demand 3
 
@@ -43,6 +46,13 @@ pub record RunFollows (n : ℕ) (L : List Op) (replies log : List ℕ) (budget :
 
 abbrev pub Demand3Run : Type 0
 Demand3Run = (L : List Op) → skip L ≡ 0 → (replies log : List ℕ) (budget : ℕ) → runs L replies log budget .steps < budget → RunFollows (length L) L replies log budget
+
+-- Both of a file that is accepted with n records.
+abbrev pub Demand3File : Type 0
+Demand3File =
+    (f : List ℕ) (n : ℕ) → checkRoutine f ≡ Accepted n → (replies log : List ℕ)
+    → ((s i : ℕ) (m : Mem) → after (ops f) s (startOf (ops f)) (freshMem replies log) ≡ go i m → Follows n (ops f) replies log s i m)
+    × ((budget : ℕ) → runs (ops f) replies log budget .steps < budget → RunFollows n (ops f) replies log budget)
 
 -- ## Nesting
 
@@ -107,3 +117,19 @@ pub data Belongs (L : List Op) (i : ℕ) : Op → Type 0 where
 abbrev pub Partners : Type 0
 Partners =
     (L : List Op) → ((b : Sort) (h k e : ℕ) → Stands L b h k e → Partnered L b h k e) × (Body L → (i : ℕ) (o : Op) → at L i ≡ some o → Belongs L i o)
+
+-- ## The base
+
+-- The paper's formula is the length of the base. (proofs/Base)
+abbrev pub Length : Type 0
+Length = (L : List Op) → length (convert L) ≡ convertedLength L
+
+-- The base of the file s holds kinds 1 to 4 only, passes the base's own checks, and is read back from its bytes.
+pub record Based (s : List ℕ) : Type 0 where
+  pub kinds : (i : ℕ) (o : Op) → at (convert (ops s)) i ≡ some o → (1 ≤ encode o .kind) × (encode o .kind ≤ 4)
+  pub checked : checkRecords Base (file (convert (ops s))) ≡ Accepted (convertedLength (ops s))
+  pub read-back : ops (file (convert (ops s))) ≡ convert (ops s)
+
+-- So a converted routine is never refused by them. (proofs/Base)
+abbrev pub BaseAccepted : Type 0
+BaseAccepted = (s : List ℕ) (n : ℕ) → checkRoutine s ≡ Accepted n → Based s
