@@ -1,3 +1,4 @@
 pub mod Searching
 pub mod Targets
 pub mod Bodies
+pub mod Lengths

@@ -1,2 +1,3 @@
 pub mod Searching
 pub mod Reading
+pub mod Length

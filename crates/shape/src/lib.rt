@@ -2,6 +2,7 @@
 mod labels;
 mod nesting;
 mod partners;
+mod skip;
 
 pub use labels::target;
 pub use labels::target2;
@@ -12,3 +13,5 @@ pub use partners::item_separator;
 pub use partners::loop_end;
 pub use partners::loop_header;
 pub use partners::separator_of;
+pub use skip::base_count;
+pub use skip::skip_place;
