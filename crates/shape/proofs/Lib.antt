@@ -2,3 +2,4 @@ pub mod Searching
 pub mod Targets
 pub mod Bodies
 pub mod Lengths
+pub mod Verdicts

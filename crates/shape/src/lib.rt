@@ -1,9 +1,11 @@
 // Shape: well-built routines, partners, label targets, the converted length, and refusals 5 to 7.
+mod check;
 mod labels;
 mod nesting;
 mod partners;
 mod skip;
 
+pub use check::check_routine;
 pub use labels::target;
 pub use labels::target2;
 pub use nesting::nesting_place;
