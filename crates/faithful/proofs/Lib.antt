@@ -12,3 +12,4 @@ pub mod Grammar
 pub mod Partners
 pub mod Accepted
 pub mod Base
+pub mod Relative
