@@ -1,5 +1,5 @@
 -- Instructions and their records.
---     FitAct, Fit     every number fits: an outside action is at most 999, any other number at most 9,999
+--     Holds, FitAct, Fit     every number fits: an outside action is at most 999, any other number at most 9,999
 --     Named, fit-named, fit-small     outside actions are at most 1,000; what fits is named, and its record's x and y fit two bytes
 --     decode-encode, decode-encodes     what was encoded is decoded
 --     tabulate, tabulated, kindOf, kindOf-in, kindOf-out, decode-kind     the kind of what was decoded, for every kind: a table by its entries
@@ -12,7 +12,7 @@ use Prim.Native.Nat.{ℕ, zero, suc, _+_, _*_, _/_, _%_, _≤_, _<_}
 use native.Mathlib.Nat.{add-zero, suc-add, add-suc, zero-add}
 use native.Mathlib.Numerals.{add-one}
 use native.Mathlib.Omega.{arith}
-use mathlib.Core.Bool.{Bool, true, false, not, cond, _&&_, _||_}
+use mathlib.Core.Bool.{Bool, true, false, cond, _&&_, _||_}
 use mathlib.Core.Option.{Option, none, some}
 use mathlib.Core.List.{List, [], _∷_, _++_, map}
 use lib.ListN.{length, take, drop, getD, getElem?, length-drop, List·getD-map}
@@ -34,7 +34,7 @@ use Rattle.rules.proofs.Records.{All, Bytes, bytes-drop, Small}
 -- ## Numbers that fit
 
 -- A is true of the action, N of every other number.
-abbrev Holds : (Act → Type 0) → (ℕ → Type 0) → Op → Type 0
+abbrev pub Holds : (Act → Type 0) → (ℕ → Type 0) → Op → Type 0
 Holds A N (act a) = A a
 Holds A N (test v a) = A a
 Holds A N (jump k) = N k

@@ -5,12 +5,12 @@
 --     ones-here, returns-here, added-here     these counts over bytes, from record k + 1 on
 --     converted-length     the converted length is the length of the base
 --     laid-grows, labels-length, labels-room, calls-room, loops-room     no stage is longer than the base
-use mathlib.Core.Path.{_≡_, refl, sym, ap, _∙_, subst}
+use mathlib.Core.Path.{_≡_, refl, sym, ap, _∙_}
 use Prim.Native.Nat.{ℕ, zero, suc, _+_, _*_, _≤_, _<_}
 use native.Mathlib.Nat.{add-zero}
 use native.Mathlib.Numerals.{add-one}
 use native.Mathlib.Omega.{arith}
-use mathlib.Core.Bool.{Bool, true, false, cond}
+use mathlib.Core.Bool.{true, false, cond}
 use mathlib.Core.Option.{Option, none, some}
 use mathlib.Core.List.{List, [], _∷_, _++_, map}
 use lib.ListN.{length, drop, getD, getElem?, length-append}
@@ -18,7 +18,7 @@ use lib.Dec.{eqb}
 use borrow.Author.Tests.{ne-eqb}
 use Rattle.rules.specs.declared.Row.{Row}
 use Rattle.rules.specs.Record.{count}
-use Rattle.rules.specs.Instruction.{Sort, conditional, loop, Op, act, test, jump, label, goto, goto2, header, separator, end, call, return, encode, ops}
+use Rattle.rules.specs.Instruction.{conditional, loop, Op, act, test, jump, label, goto, goto2, header, separator, end, call, return, encode, ops}
 use Rattle.rules.specs.declared.Notation.the-variants.{Routine}
 use Rattle.rules.specs.Table.{rows, rowOf}
 use Rattle.rules.specs.Numbers.{at, each, names}

@@ -4,5 +4,7 @@ pub mod Instructions
 pub mod Partners
 pub mod SecondLevel
 pub mod Length
+pub mod Fits
+pub mod Runs
 pub mod Refusals
 pub mod Table

@@ -7,15 +7,15 @@
 -- All of them hold of every list. The search for an end's separator goes on to the header: the first separator met at depth 0 is
 -- another one where an item has two, and belongs to no item where there is no header.
 use mathlib.Core.Path.{_≡_, refl, sym, ap, _∙_}
-use Prim.Native.Nat.{ℕ, zero, suc, _+_, _*_, _≤_, _<_}
-use native.Mathlib.Nat.{zero-add, add-zero, suc-add, add-suc}
+use Prim.Native.Nat.{ℕ, zero, suc, _*_, _≤_, _<_}
+use native.Mathlib.Nat.{add-zero}
 use native.Mathlib.Omega.{arith}
-use mathlib.Core.Bool.{Bool, true, false, cond, _&&_}
+use mathlib.Core.Bool.{cond, _&&_}
 use mathlib.Core.Option.{Option, none, some}
 use mathlib.Core.List.{List, [], _∷_, map}
-use lib.ListN.{length, drop, getD, getElem?, drop-of-length-le, List·getD-map}
+use lib.ListN.{length, drop, getD, drop-of-length-le, List·getD-map}
 use lib.Seq.{drop-cons}
-use lib.Dec.{eqb, T, eqb→eq}
+use lib.Dec.{eqb}
 use borrow.Author.Tests.{eq-eqb, ne-eqb}
 use Rattle.rules.specs.Record.{Rec, count}
 use Rattle.rules.specs.Instruction.{Sort, conditional, loop, Op, jump, actOf, written, decode, ops}

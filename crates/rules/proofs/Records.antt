@@ -8,15 +8,15 @@
 --     recordAt, record-drop, recordsOf-drop, recordsOf-getD, records-getD, records-at, records-none     record k + 1, by byte position
 --     recordAt-small, recordsOf-small, records-small     fields read from bytes fit two bytes
 --     ops-length, ops-getD, ops-at, ops-none, ops-drop, ops-end     the same of the instructions
-use mathlib.Core.Path.{_≡_, refl, sym, ap, _∙_, subst}
+use mathlib.Core.Path.{_≡_, refl, sym, ap, _∙_}
 use Prim.Native.Nat.{ℕ, zero, suc, _+_, _-_, _*_, _/_, _%_, _≤_, _<_}
 use native.Mathlib.Nat.{add-zero, sub-zero, zero-sub, suc-sub-suc}
 use native.Mathlib.Omega.{arith}
-use mathlib.Core.Option.{Option, none, some}
+use mathlib.Core.Option.{none, some}
 use mathlib.Core.List.{List, [], _∷_, _++_, map, append-nil}
-use lib.ListN.{length, drop, getD, getElem?, length-map, drop-of-length-le}
+use lib.ListN.{length, drop, getD, length-map, drop-of-length-le}
 use lib.Seq.{drop-cons, drop-drop, getD-drop}
-use Rattle.rules.specs.Record.{Rec, rec, recordBytes, bytesOf, count, recordOf, recordsOf, records}
+use Rattle.rules.specs.Record.{Rec, rec, bytesOf, count, recordOf, recordsOf, records}
 use Rattle.rules.specs.Numbers.{at}
 use Rattle.rules.specs.Instruction.{Op, jump, decode, ops}
 

@@ -2,18 +2,20 @@
 --     each-length, each-on, each-getD     f of each record: how many; one record more; its member k + 1
 --     groups, groups-ext, groups-next, groups-grow, groups-room, groups-map     lists of records 1 to n end to end, the form in which a writer's loop goes on
 --     lowered, stage-groups     what record i becomes, its jumps renumbered; a stage is the groups of these
---     seconds-groups, renumber-groups, renumber-zero, renumber-out     the place of a group is one more than what stands before it
+--     seconds-groups, renumber-groups, renumber-zero, renumber-out, renumber-in     the place of a group is one more than what stands before it
 --     each-groups     a stage without second level, as groups of one record
-use mathlib.Core.Path.{_≡_, refl, sym, ap, _∙_, subst}
+use mathlib.Core.Path.{_≡_, refl, sym, ap, _∙_}
 use Prim.Native.Nat.{ℕ, zero, suc, _+_, _≤_, _<_}
 use native.Mathlib.Nat.{zero-add, suc-add, add-suc, eq-or-lt-of-le, le-of-suc-le-suc}
 use native.Mathlib.Numerals.{add-one}
 use native.Mathlib.Omega.{arith}
 use mathlib.Core.Logic.{⊎-elim}
+use mathlib.Core.Bool.{Bool, true, false}
 use mathlib.Core.List.{List, [], _∷_, _++_, map, append-assoc, append-nil, map-append}
 use lib.ListN.{length, take, getD, length-map, length-append}
 use lib.Seq.{take-length}
-use borrow.Author.Tests.{le-leb, lt-leb}
+use lib.Dec.{leb}
+use borrow.Author.Tests.{leb-true, leb-false, le-leb, lt-leb}
 use Rattle.rules.specs.Instruction.{Op}
 use Rattle.rules.specs.Numbers.{each, names}
 use Rattle.rules.specs.SecondLevel.{Group, _▹_, members, seconds, renumber, sent, laid}
@@ -77,6 +79,15 @@ laid-on to (x ∷ gs) g =
     ap (λ (r : List Op). map (sent to) (members x) ++ r) (laid-on to gs g)
     ∙ sym (append-assoc (map (sent to) (members x)) (laid to gs) (map (sent to) (members g)))
 
+pub renumber-zero : (gs : List Group) → renumber gs 0 ≡ 0
+unfolding renumber
+renumber-zero gs = refl
+
+pub renumber-out : (f : ℕ → Op → Group) (L : List Op) (k : ℕ) → length L < k → renumber (each f 1 L) k ≡ 0
+unfolding renumber names
+renumber-out f L zero h = refl
+renumber-out f L (suc k) h = rw (each-length f 1 L, lt-leb (suc k) (length L) h)
+
 module _ (f : ℕ → Op → Group) (to : ℕ → ℕ) (L : List Op) (z : Op) where
   -- What record i becomes, jumps renumbered.
   abbrev pub lowered : ℕ → List Op
@@ -114,14 +125,20 @@ module _ (f : ℕ → Op → Group) (to : ℕ → ℕ) (L : List Op) (z : Op) wh
   unfolding renumber names
   renumber-groups k h = rw (each-length f 1 L, le-leb (suc k) (length L) h) (suc-add k _ ∙ ap suc (seconds-groups k (omega arith)))
 
-pub renumber-zero : (gs : List Group) → renumber gs 0 ≡ 0
-unfolding renumber
-renumber-zero gs = refl
+  -- A number that was renumbered names a record of the stage, or none.
+  pub renumber-in : (k : ℕ) → renumber (each f 1 L) k ≤ length (laid to (each f 1 L))
+  unfolding renumber members
+  renumber-in zero = omega arith
+  renumber-in (suc k) = by (leb (suc k) (length L)) refl
+    where
+      one : (g : Group) → 1 ≤ length (map (sent to) (members g))
+      one (x ▹ xs) = omega arith
 
-pub renumber-out : (f : ℕ → Op → Group) (L : List Op) (k : ℕ) → length L < k → renumber (each f 1 L) k ≡ 0
-unfolding renumber names
-renumber-out f L zero h = refl
-renumber-out f L (suc k) h = rw (each-length f 1 L, lt-leb (suc k) (length L) h)
+      by : (t : Bool) → leb (suc k) (length L) ≡ t → renumber (each f 1 L) (suc k) ≤ length (laid to (each f 1 L))
+      by true e =
+          let h : k < length L = leb-true _ _ e in
+          omega (arith, renumber-groups k h, ap length stage-groups, groups-room lowered k (length L) h, one (f (suc k) (getD L k z)))
+      by false e = omega (arith, renumber-out f L (suc k) (leb-false _ _ e))
 
 -- ## A stage without second level
 

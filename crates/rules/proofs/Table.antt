@@ -15,7 +15,4 @@ for-ever (suc b) = let h = for-ever b in (ap suc (h .0), h .1, h .2)
 
 pub table : Cases × Beside
 unfolding computes Cases Beside
-table = (
-  (refl, refl, refl, refl, for-ever, refl, refl, refl, refl, refl, refl, refl, refl, refl, refl, refl, refl, refl, refl, refl, refl, refl),
-  (refl, refl, refl, refl, refl, refl, refl, refl, refl, refl, refl, refl, refl, refl, refl, refl, refl, refl, refl),
-)
+table = ((refl, refl, refl, refl, for-ever, refl, refl, refl, refl, refl, refl, refl, refl, refl, refl, refl, refl, refl, refl, refl, refl, refl, refl, refl, refl), (refl, refl, refl, refl, refl, refl, refl, refl, refl, refl, refl, refl, refl, refl, refl, refl, refl, refl, refl))

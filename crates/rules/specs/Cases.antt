@@ -1,7 +1,7 @@
 -- Checked by hand: the paper's ● cases and its listing example, row by row in the paper's order, and rows of our own beside them.
 -- A row speaks of a file's bytes where it asks what a call answers, and of instructions where it asks what they become.
 use mathlib.Core.Path.{_≡_}
-use Rattle.rules.specs.Words.{ℕ, true, false, List, [], _∷_, map, length}
+use Rattle.rules.specs.Words.{ℕ, true, false, List, [], _∷_, map, length, replicate}
 use Rattle.rules.specs.declared.Refusal.the-variants.{Ragged, Kind, Field, Nesting, Skip, Room, Reply, Far}
 use Rattle.rules.specs.declared.Verdict.the-variants.{Accepted, Refused}
 use Rattle.rules.specs.declared.Status.{Status}
@@ -15,7 +15,7 @@ use Rattle.rules.specs.Convert.{convert}
 use Rattle.rules.specs.Relative.{toRelative}
 use Rattle.rules.specs.Stack.{fresh}
 use Rattle.rules.specs.Run.{statusNumber, runs}
-use Rattle.rules.specs.Answers.{checkRecords, checkRoutine, converting, absoluting, noState, runRoutine, runBase}
+use Rattle.rules.specs.Answers.{checkRecords, checkRoutine, baseCount, converting, absoluting, noState, runRoutine, runBase}
 
 abbrev a : ℕ → Op
 a k = act (outside k)
@@ -61,12 +61,13 @@ Cases =
     -- +a1; R##1 refused 6 at 1. R##1; +a1 accepted, length 3.
     × (checkRoutine (file (+a 1 ∷ call 1 ∷ [])) ≡ Refused (Skip 1))
     × (checkRoutine (file (call 1 ∷ +a 1 ∷ [])) ≡ Accepted 2)
-    × (length (convert (call 1 ∷ +a 1 ∷ [])) ≡ 3)
+    × (converting (file (call 1 ∷ +a 1 ∷ [])) (replicate 24 0) (replicate 24 0) ≡ Accepted 3)
     -- }{ refused 5 at 1. +a1{; +a2{*; } refused 5 at 3.
     × (checkRoutine (file (separator ∷ [])) ≡ Refused (Nesting 1))
     × (checkRoutine (file (+a⟨ 1 ∷ header loop true (outside 2) ∷ end conditional ∷ [])) ≡ Refused (Nesting 3))
     -- R##4; a1; ##0; a2; ##R becomes 36 records. With replies 1, 1 the routine logs 2, 1 in 5 steps; the base does in 14.
     × (length (convert there-and-back) ≡ 36)
+    × (baseCount (file there-and-back) ≡ 36)
     × (runRoutine (file there-and-back) (1 ∷ 1 ∷ []) (7 ∷ 7 ∷ 7 ∷ 7 ∷ 7 ∷ []) 50 ≡ record { answer = stoppedAfter Ended 5 2 2; log = 2 ∷ 0 ∷ 1 ∷ 0 ∷ 7 ∷ [] })
     × (runBase (file (convert there-and-back)) (1 ∷ 1 ∷ []) (7 ∷ 7 ∷ 7 ∷ 7 ∷ 7 ∷ []) 50 ≡ record { answer = stoppedAfter Ended 14 2 2; log = 2 ∷ 0 ∷ 1 ∷ 0 ∷ 7 ∷ [] })
     -- R##1: 96 steps, then status 4; its base takes 192.
@@ -74,7 +75,9 @@ Cases =
     × (runs (call 1 ∷ []) [] [] 500 .status ≡ StackFull)
     × (runs (convert (call 1 ∷ [])) [] [] 500 .steps ≡ 192)
     × (runs (convert (call 1 ∷ [])) [] [] 500 .status ≡ StackFull)
-    -- The listing.
+    -- The listing: length 9 11, and the base.
+    × (checkRoutine (file listed) ≡ Accepted 9)
+    × (baseCount (file listed) ≡ 11)
     × (convert listed ≡ +a 5 ∷ jump 11 ∷ a 6 ∷ -a 7 ∷ jump 8 ∷ a 8 ∷ jump 10 ∷ a 9 ∷ jump 10 ∷ jump 1 ∷ a 10 ∷ [])
 
 -- What the paper says in words and its table does not try.
@@ -93,7 +96,7 @@ Beside =
     -- A conditional without separator ends, in header and in }.
     × (convert (+a⟨ 1 ∷ a 2 ∷ end conditional ∷ a 3 ∷ []) ≡ -a 1 ∷ jump 0 ∷ a 2 ∷ jump 0 ∷ a 3 ∷ [])
     × (runs (+a⟨ 1 ∷ a 2 ∷ end conditional ∷ a 3 ∷ []) (0 ∷ []) (0 ∷ 0 ∷ []) 9 .steps ≡ 1)
-    × (runs (+a⟨ 1 ∷ a 2 ∷ end conditional ∷ a 3 ∷ []) (1 ∷ 1 ∷ []) (0 ∷ 0 ∷ 0 ∷ 0 ∷ []) 9 .steps ≡ 3)
+    × (runs (+a⟨ 1 ∷ a 2 ∷ end conditional ∷ a 3 ∷ []) (1 ∷ 1 ∷ 1 ∷ []) (replicate 6 0) 9 .steps ≡ 3)
     -- A return that is not the last record has the chain for n.
     × (length (convert (return ∷ a 1 ∷ [])) ≡ 14)
     -- A return that finds n+1 on top ends without a pop, and so does its chain.
