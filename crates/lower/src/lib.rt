@@ -1,3 +1,6 @@
 // A routine lowered to its base: the paper's four stages, and the call that converts.
 mod calls;
+mod conditionals;
+mod labels;
+mod loops;
 mod second_level;
