@@ -1,19 +1,14 @@
 -- What an accepted file is, and that a file of faultless records is accepted: the checks taken apart and put together again.
-use mathlib.Core.Path.{_≡_, refl, sym, ap, _∙_, subst}
-use Prim.Native.Nat.{ℕ, zero, suc, _+_, _*_, _/_, _%_, _≤_, _<_}
+use mathlib.Core.Path.{_≡_, refl}
+use Prim.Native.Nat.{_≤_, _<_}
 use native.Mathlib.Omega.{arith}
-use mathlib.Core.Bool.{Bool, true, false, not, cond, _&&_}
-use mathlib.Core.Option.{Option, none, some}
-use mathlib.Core.List.{List, [], _∷_, _++_}
-use lib.ListN.{length}
-use lib.Dec.{eqb, ltb}
 use borrow.Author.Tests.{eqb-true, not-false, ltb-false, le-ltb, eq-eqb}
+use Rattle.rules.specs.Words.{ℕ, zero, suc, _+_, _*_, _/_, _%_, Bool, true, false, Option, none, some, List, [], _∷_, _++_, length}
 use Rattle.rules.specs.declared.Notation.{Notation}
 use Rattle.rules.specs.declared.Notation.the-variants.{Routine}
 use Rattle.rules.specs.declared.Refusal.{Refusal}
-use Rattle.rules.specs.declared.Refusal.the-variants.{Ragged, Long, Kind, Field, Nesting, Skip, Growth}
-use Rattle.rules.specs.declared.Verdict.the-variants.{Accepted, Refused}
-use Rattle.rules.specs.Record.{Rec, rec, recordBytes, bytesOf, count, recordOf, spareZero}
+use Rattle.rules.specs.declared.Verdict.the-variants.{Accepted}
+use Rattle.rules.specs.Record.{Rec, recordBytes, bytesOf, count}
 use Rattle.rules.specs.Table.{rowOf}
 use Rattle.rules.specs.Instruction.{ops}
 use Rattle.rules.specs.Refusals.{when, whenAt, orElse, first, verdictOf, verdict}

@@ -1,34 +1,30 @@
 -- What conversion gives is accepted as a base, and read back from its bytes: its kinds are 1 to 4, its numbers fit their fields.
 -- From the stages, the length law and the laws of fields of `rules`.
 use mathlib.Core.Path.{_≡_, refl, sym, ap, _∙_, subst}
-use Prim.Native.Nat.{ℕ, zero, suc, _+_, _≤_, _<_, zero-le}
+use Prim.Native.Nat.{_≤_}
 use native.Mathlib.Omega.{arith}
-use mathlib.Core.Bool.{Bool, true, false, not, cond, _&&_, _||_}
-use mathlib.Core.Option.{Option, none, some}
-use mathlib.Core.List.{List, [], _∷_, _++_, map}
-use lib.ListN.{length, getElem?, length-map}
-use lib.Dec.{leb, leb·zero}
-use borrow.Author.Tests.{leb-true, le-leb, not-false}
+use lib.ListN.{length-map}
+use lib.Dec.{leb·zero}
+use borrow.Author.Tests.{leb-true, le-leb}
+use Rattle.rules.specs.Words.{ℕ, zero, suc, Bool, true, false, not, _&&_, _||_, Option, some, List, [], _∷_, map, getElem?, leb}
 use Rattle.rules.specs.declared.Row.{Row}
 use Rattle.rules.specs.declared.Notation.the-variants.{Routine, Base}
 use Rattle.rules.specs.declared.Verdict.the-variants.{Accepted}
-use Rattle.rules.specs.Record.{Rec, rec, bytesOf, count, records}
+use Rattle.rules.specs.Record.{Rec, count, records}
 use Rattle.rules.specs.Numbers.{at, names}
 use Rattle.rules.specs.Table.{rowOf}
-use Rattle.rules.specs.Instruction.{Act, outside, push, pop, compare, conditional, loop, Op, act, test, jump, label, goto, goto2, header, separator, end, call, return, xOf, yOf, actRec, encode, decode, ops, file}
+use Rattle.rules.specs.Instruction.{Act, outside, push, pop, compare, conditional, loop, Op, act, test, jump, label, goto, goto2, header, separator, end, call, return, actRec, encode, decode, ops, file}
 use Rattle.rules.specs.Checks.{most, listed, inRow, fieldFault}
-use Rattle.rules.specs.Skip.{skip, convertedLength}
 use Rattle.rules.specs.Convert.{convert}
-use Rattle.rules.specs.Answers.{checkRecords, checkRoutine}
 use Rattle.rules.proofs.Computes.{computes}
-use Rattle.rules.proofs.Records.{All, Small, ops-length}
-use Rattle.rules.proofs.Instructions.{FitAct, Fit, fit-small, accepted-back, accepted-ops, no-faults}
+use Rattle.rules.proofs.Records.{All}
+use Rattle.rules.proofs.Instructions.{FitAct, Fit, accepted-back, accepted-ops, no-faults}
 use Rattle.rules.proofs.Length.{converted-length}
-use Rattle.rules.proofs.Fits.{Stages, stages-fit, fit-ops}
-use Rattle.faithful.specs.Promises.{Length, Based, BaseAccepted}
-use Rattle.faithful.proofs.Stage.{rank, Good, FromOne, Numbered, Staged}
+use Rattle.rules.proofs.Fits.{stages-fit, fit-ops}
+use Rattle.faithful.specs.Promises.{Length, BaseAccepted}
+use Rattle.faithful.proofs.Inner.Turns.{rank, Good, FromOne, Numbered}
 use Rattle.faithful.proofs.Demand.{converted}
-use Rattle.faithful.proofs.Accepted.{Held, Admitted, admitted, Fine, accepted}
+use Rattle.faithful.proofs.Accepted.{admitted, Fine, accepted}
 
 -- ## An accepted routine's outside actions are numbered from 1 on
 

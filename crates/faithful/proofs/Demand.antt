@@ -1,12 +1,9 @@
 -- Demand 3: the four simulations together, what their steps cost, and from steps to runs.
-use mathlib.Core.Path.{_≡_, refl, sym, ap, _∙_, subst}
-use Prim.Native.Nat.{ℕ, zero, suc, _+_, _*_, _≤_, _<_, zero-le}
+use mathlib.Core.Path.{_≡_, refl, ap, _∙_, subst}
+use Prim.Native.Nat.{_≤_, _<_, zero-le}
 use native.Mathlib.Nat.{mul-suc}
 use native.Mathlib.Omega.{arith}
-use mathlib.Core.Bool.{Bool, true, false, cond}
-use mathlib.Core.Option.{Option, none, some}
-use mathlib.Core.List.{List, [], _∷_}
-use lib.ListN.{length, getElem?}
+use Rattle.rules.specs.Words.{ℕ, zero, suc, _+_, _*_, Bool, true, false, cond, Option, none, some, List, [], _∷_, length, getElem?}
 use Rattle.rules.specs.declared.Status.{Status}
 use Rattle.rules.specs.Instruction.{Op, act, test, jump, label, goto, goto2, header, separator, end, call, return, conditional, loop, ops}
 use Rattle.rules.specs.Numbers.{at, each}
@@ -14,23 +11,24 @@ use Rattle.rules.specs.Skip.{skip}
 use Rattle.rules.specs.Labels.{labels}
 use Rattle.rules.specs.Calls.{uncall, calls}
 use Rattle.rules.specs.Loops.{unloop, loops}
-use Rattle.rules.specs.Conditionals.{uncond, conditionals}
+use Rattle.rules.specs.Conditionals.{uncond}
 use Rattle.rules.specs.Convert.{convert}
 use Rattle.rules.specs.Stack.{fresh, top, equals}
 use Rattle.rules.specs.Step.{Mem, Reply, did, stops, perform, Out, go, halt, agree, step}
-use Rattle.rules.specs.Run.{andThen, after, why, startOf, freshMem, Run, stopped, oneMore, onward, run, runs}
+use Rattle.rules.specs.Run.{andThen, after, why, startOf, freshMem, Run, oneMore, onward, run, runs}
 use Rattle.rules.specs.Cases.{there-and-back}
 use Rattle.rules.proofs.Records.{ops-length}
 use Rattle.rules.proofs.Computes.{computes}
 use Rattle.faithful.specs.Promises.{Follows, Demand3, RunFollows, Demand3Run, Demand3File}
-use Rattle.faithful.proofs.Accepted.{Held, Admitted, admitted}
-use Rattle.faithful.proofs.Places.{place}
-use Rattle.faithful.proofs.Simulation.{forkCost, linkCost, cost, costOf, costAt, Way, stay, on, Sim, both, lift, at-in}
-use Rattle.faithful.proofs.Stage.{rank, Good, Staged}
-use Rattle.faithful.proofs.Labels.{labels-staged}
-use Rattle.faithful.proofs.Calls.{calls-staged}
-use Rattle.faithful.proofs.Loops.{loops-staged}
-use Rattle.faithful.proofs.Conditionals.{conditionals-staged}
+use Rattle.faithful.proofs.Accepted.{admitted}
+use Rattle.faithful.proofs.Inner.Places.{place}
+use Rattle.faithful.proofs.Inner.Simulation.{forkCost, linkCost, cost, costOf, costAt, Way, stay, on, Sim, both, lift, at-in}
+use Rattle.faithful.proofs.Inner.Turns.{rank, Good}
+use Rattle.faithful.proofs.Inner.Stage.{Staged}
+use Rattle.faithful.proofs.Inner.Labels.{labels-staged}
+use Rattle.faithful.proofs.Inner.Calls.{calls-staged}
+use Rattle.faithful.proofs.Inner.Loops.{loops-staged}
+use Rattle.faithful.proofs.Inner.Conditionals.{conditionals-staged}
 
 -- ## The four stages together
 
@@ -240,7 +238,7 @@ demand3-file f n e replies log =
     let a = admitted f n e in
     let l : length (ops f) ≡ n = ops-length f ∙ a .records .counted in (
       λ s i m g. subst (λ (k : ℕ). Follows k (ops f) replies log s i m) l (demand3 (ops f) (a .allowed) replies log s i m g),
-      λ b h. subst (λ (k : ℕ). RunFollows k (ops f) replies log b) l (demand3-run (ops f) (a .allowed) replies log b h),
+      λ b h. subst (λ (k : ℕ). RunFollows k (ops f) replies log (runs (ops f) replies log b)) l (demand3-run (ops f) (a .allowed) replies log b h),
     )
 
 -- ## At work: the 5 steps of the paper's 36-record case are 14 of its base

@@ -1,20 +1,20 @@
 -- The grammar and the scan agree: refusal 5 is absent exactly if the routine is one body, and its place is the one that the paper
 -- words. Both ways by reading: what is read leaves items open, and between their headers and separators stand bodies.
 use mathlib.Core.Path.{_≡_, refl, sym, ap, _∙_, subst}
-use mathlib.Core.Logic.{_⊎_, inl, inr, _↔_}
-use Prim.Native.Nat.{ℕ, zero, suc, _+_, _≤_, _<_}
+use mathlib.Core.Logic.{_⊎_, inl, inr}
+use Prim.Native.Nat.{_≤_}
 use native.Mathlib.Omega.{arith}
-use mathlib.Core.Bool.{Bool, true, false}
-use mathlib.Core.Option.{Option, none, some}
-use mathlib.Core.List.{List, [], _∷_, _++_, append-assoc, append-nil}
-use lib.ListN.{length, length-append}
+use mathlib.Core.List.{append-assoc, append-nil}
+use lib.ListN.{length-append}
 use lib.Seq.{append-snoc}
-use Rattle.rules.specs.Instruction.{Act, Sort, conditional, loop, Op, act, test, jump, label, goto, goto2, header, separator, end, call, return}
-use Rattle.rules.specs.Nesting.{Bracket, alone, bracket, Item, item, parted, closed, read, lowest, goOn, scan, nesting}
+use Rattle.rules.specs.Words.{ℕ, suc, _+_, Bool, true, false, List, [], _∷_, _++_, length}
+use Rattle.rules.specs.Instruction.{Sort, conditional, loop, Op, act, test, jump, label, goto, goto2, header, separator, end, call, return}
+use Rattle.rules.specs.Nesting.{Bracket, bracket, Item, item, parted, closed, read, lowest, goOn, scan, nesting}
 use Rattle.rules.specs.WellBuilt.{Body, nothing, single, looping, oneArm, twoArms}
-use Rattle.faithful.specs.Promises.{IsOpen, Leaves, none-open, in-item, in-second, Misfit, stray-separator, second-separator, separator-in-loop, stray-end, loop-end-in-conditional, end-in-loop, Place5, misfit, unclosed, Grammar}
-use Rattle.faithful.proofs.Places.{over, over-length}
-use Rattle.faithful.proofs.Reading.{Reader, body-over}
+use Rattle.faithful.specs.Place.{Leaves, none-open, in-item, in-second, IsOpen, Misfit, stray-separator, second-separator, separator-in-loop, stray-end, loop-end-in-conditional, end-in-loop, Place5, misfit, unclosed}
+use Rattle.faithful.specs.Promises.{Grammar}
+use Rattle.faithful.proofs.Inner.Places.{over, over-length}
+use Rattle.faithful.proofs.Inner.Reading.{Reader, body-over}
 
 -- ## Bodies and what is left open can be read on
 

@@ -1,23 +1,21 @@
 -- Wherever an item of the grammar stands, its header, separator and end are partners; and in a body every record belongs to an item.
 -- From the reading of bodies.
 use mathlib.Core.Path.{_≡_, refl, sym, ap, _∙_, subst}
-use Prim.Native.Nat.{ℕ, zero, suc, _+_, _≤_, _<_}
 use native.Mathlib.Nat.{zero-add}
 use native.Mathlib.Numerals.{add-one}
 use native.Mathlib.Omega.{arith}
-use mathlib.Core.Bool.{Bool, true, false}
-use mathlib.Core.Option.{Option, none, some}
-use mathlib.Core.List.{List, [], _∷_, _++_, append-assoc, append-nil}
-use lib.ListN.{length, drop, getElem?}
+use mathlib.Core.List.{append-assoc, append-nil}
+use Rattle.rules.specs.Words.{ℕ, zero, suc, _+_, Bool, some, List, [], _∷_, _++_, drop, getElem?}
 use Rattle.rules.specs.Instruction.{Act, Sort, conditional, loop, Op, header, separator, end}
 use Rattle.rules.specs.Numbers.{at}
-use Rattle.rules.specs.Nesting.{alone, bracket}
+use Rattle.rules.specs.Nesting.{bracket}
 use Rattle.rules.specs.WellBuilt.{Body, nothing, single, looping, oneArm, twoArms}
-use Rattle.rules.specs.Partners.{Role, opens, parts, ends, roleOf, role, endAt, separatorAt, endOf, separatorOf, headerOf}
+use Rattle.rules.specs.Partners.{Role, opens, ends, roleOf, role, endAt, separatorAt, endOf, headerOf}
 use Rattle.rules.proofs.Partners.{backAt, back}
-use Rattle.faithful.specs.Promises.{Stands, loop-item, one-arm, two-arms, Partnered, Belongs, by-itself, as-header, as-separator, as-end, Partners}
-use Rattle.faithful.proofs.Places.{over, over-suc, over-length}
-use Rattle.faithful.proofs.Reading.{From, whole, next, from-drop, drop-at, from-at, from-of, from-over, seek, seeks-end, seeks-separator, seek-body, end-of, separator-of, back-one, back-body, header-of}
+use Rattle.faithful.specs.Items.{Stands, loop-item, one-arm, two-arms, Partnered, Belongs, by-itself, as-header, as-separator, as-end}
+use Rattle.faithful.specs.Promises.{Partners}
+use Rattle.faithful.proofs.Inner.Places.{over, over-suc, over-length}
+use Rattle.faithful.proofs.Inner.Reading.{From, whole, next, from-drop, drop-at, from-of, from-over, seek, seeks-end, seeks-separator, seek-body, end-of, separator-of, back-one, back-body, header-of}
 
 -- ## An item's partners
 

@@ -1,29 +1,27 @@
 -- Absolute to relative and back: an accepted base becomes an accepted relative base, none of its numbers is far, and back it is the same
 -- records and the same bytes. From the laws of fields of `rules`, record by record.
 use mathlib.Core.Path.{_≡_, refl, sym, ap, _∙_, subst}
-use Prim.Native.Nat.{ℕ, zero, suc, _+_, _-_, _≤_, _<_}
+use Prim.Native.Nat.{_≤_}
 use native.Mathlib.Omega.{arith}
-use mathlib.Core.Bool.{Bool, true, false, cond}
-use mathlib.Core.List.{List, [], _∷_}
-use lib.ListN.{length}
-use lib.Dec.{leb, ltb, leb·zero}
-use borrow.Author.Tests.{leb-true, le-leb, lt-leb, lt-ltb, le-ltb}
+use lib.Dec.{leb·zero}
+use borrow.Author.Tests.{le-leb, lt-leb, lt-ltb, le-ltb}
+use Rattle.rules.specs.Words.{ℕ, zero, suc, _+_, _-_, true, false, List, [], _∷_, length}
 use Rattle.rules.specs.declared.Notation.the-variants.{Base, Relative}
 use Rattle.rules.specs.declared.Verdict.the-variants.{Accepted}
 use Rattle.rules.specs.Record.{Rec, rec, bytesOf, count, records}
-use Rattle.rules.specs.Instruction.{Act, outside, push, pop, compare, conditional, loop, Op, act, test, jump, label, goto, goto2, header, separator, end, call, return, xOf, yOf, actRec, encode, decode}
+use Rattle.rules.specs.Instruction.{Act, outside, push, pop, compare, conditional, loop, Op, act, test, jump, label, goto, goto2, header, separator, end, call, return, xOf, actRec, encode, decode}
 use Rattle.rules.specs.Numbers.{each}
 use Rattle.rules.specs.Checks as Checks
 use Rattle.rules.specs.Checks.{most, fieldFault}
 use Rattle.rules.specs.Table.{rowOf}
-use Rattle.rules.specs.Relative.{relativeJump, relativeAt, toRelative, absoluteAt, toAbsolute, farFrom, far}
+use Rattle.rules.specs.Relative.{relativeAt, toRelative, absoluteAt, toAbsolute, farFrom, far}
 use Rattle.rules.proofs.Computes.{computes}
 use Rattle.rules.proofs.Records.{All, Small, records-length, records-back}
 use Rattle.rules.proofs.SecondLevel.{each-length}
 use Rattle.rules.proofs.Instructions.{FitAct, Fit, fit-small, accepted-back, accepted-fit, no-faults, accepted-bytes}
-use Rattle.faithful.specs.Promises.{RoundTrip, RelativeAndBack}
-use Rattle.faithful.proofs.Places.{in-or-out}
-use Rattle.faithful.proofs.Accepted.{Held, held, Fine, accepted}
+use Rattle.faithful.specs.Promises.{RelativeAndBack}
+use Rattle.faithful.proofs.Inner.Places.{in-or-out}
+use Rattle.faithful.proofs.Accepted.{held, Fine, accepted}
 
 -- ## A record at i
 

@@ -1,13 +1,11 @@
 -- Reading on from a record: what stands there, what the search for an end or a separator to the right and for a header to the left
 -- has still to read, and that a body is read over by every such search.
 use mathlib.Core.Path.{_≡_, refl, sym, ap, _∙_, subst, fun-ext}
-use Prim.Native.Nat.{ℕ, zero, suc, _+_, _≤_, _<_}
+use Prim.Native.Nat.{_<_}
 use native.Mathlib.Nat.{add-zero}
 use native.Mathlib.Omega.{arith}
-use mathlib.Core.Bool.{Bool, true, false, cond, _&&_}
-use mathlib.Core.Option.{Option, none, some}
-use mathlib.Core.List.{List, [], _∷_, _++_, tail, head?, append-assoc, append-nil}
-use lib.ListN.{length, drop, getD, getElem?}
+use mathlib.Core.List.{tail, head?, append-assoc, append-nil}
+use Rattle.rules.specs.Words.{ℕ, zero, suc, _+_, Bool, true, false, cond, _&&_, Option, none, some, List, [], _∷_, _++_, length, drop, getD, getElem?}
 use Rattle.rules.specs.Instruction.{Act, Sort, conditional, loop, Op, header, separator, end}
 use Rattle.rules.specs.Numbers.{at, given, past}
 use Rattle.rules.specs.Nesting.{alone, bracket}
@@ -15,7 +13,7 @@ use Rattle.rules.specs.WellBuilt.{Body, nothing, single, looping, oneArm, twoAr
 use Rattle.rules.specs.Partners.{Role, opens, parts, ends, other, roleOf, role, endAt, endFrom, separatorAt, separatorFrom, endOf, separatorOf, opening, isHeader, headerUpTo, headerOf}
 use Rattle.rules.proofs.Records.{at-getD}
 use Rattle.rules.proofs.Partners.{backAt, roleAt, back, header-back}
-use Rattle.faithful.proofs.Places.{over, over-append}
+use Rattle.faithful.proofs.Inner.Places.{over, over-append}
 
 -- ## What stands behind the first k records
 

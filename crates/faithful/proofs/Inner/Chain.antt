@@ -1,26 +1,25 @@
 -- The chain for j as it runs: it pops and goes to the number on top where that is in 1..j, and ends otherwise. So a return becomes
 -- the chain for the routine's record count. Read as brackets, the chain is one body.
-use mathlib.Core.Path.{_≡_, refl, sym, ap, _∙_, subst}
-use Prim.Native.Nat.{ℕ, zero, suc, _+_, _≤_, _<_, zero-le}
+use mathlib.Core.Path.{_≡_, refl, ap, _∙_, subst}
+use Prim.Native.Nat.{_≤_, zero-le}
 use native.Mathlib.Omega.{arith}
-use mathlib.Core.Bool.{Bool, true, false, cond}
-use mathlib.Core.Option.{Option, none, some}
-use mathlib.Core.List.{List, [], _∷_, _++_, map, append-assoc, map-append}
-use lib.ListN.{length, length-append}
-use lib.Dec.{leb, eqb, eqb·zero-suc, leb·suc-zero}
-use borrow.Author.Tests.{le-leb, lt-leb, eq-eqb, ne-eqb, eqb-true, eqb-false}
+use mathlib.Core.List.{append-assoc, map-append}
+use lib.ListN.{length-append}
+use lib.Dec.{eqb·zero-suc, leb·suc-zero}
+use borrow.Author.Tests.{le-leb, lt-leb, eqb-true, eqb-false}
+use Rattle.rules.specs.Words.{ℕ, zero, suc, _+_, Bool, true, false, cond, Option, none, some, List, [], _∷_, _++_, map, length, eqb, leb}
 use Rattle.rules.specs.Instruction.{pop, compare, conditional, Op, act, jump, header, separator, end}
 use Rattle.rules.specs.Numbers.{at, given, past, names, moveTo}
 use Rattle.rules.specs.Nesting.{bracket}
 use Rattle.rules.specs.WellBuilt.{Body, nothing, single, twoArms}
-use Rattle.rules.specs.Partners.{role, roleOf, separatorAt, separatorOf}
+use Rattle.rules.specs.Partners.{role, roleOf, separatorAt}
 use Rattle.rules.specs.SecondLevel.{members, sent}
 use Rattle.rules.specs.Calls.{chain}
 use Rattle.rules.specs.Stack.{top, popped, nonempty, equals}
 use Rattle.rules.specs.Step.{deed, Mem, withStack, did, perform, Out, go, halt, agree, branch, leaving, does, step}
-use Rattle.faithful.proofs.Places.{in-or-out, move-in}
-use Rattle.faithful.proofs.Simulation.{forkCost, linkCost, cost, costAt, step-is, cost-is, Way, first, here, Goes, jumped}
-use Rattle.faithful.proofs.Reading.{From, next, from-at, from-length, separator-of, seek}
+use Rattle.faithful.proofs.Inner.Places.{in-or-out, move-in}
+use Rattle.faithful.proofs.Inner.Simulation.{forkCost, linkCost, cost, costAt, step-is, cost-is, Way, first, here, jumped}
+use Rattle.faithful.proofs.Inner.Reading.{From, next, from-at, from-length, separator-of, seek}
 
 -- ## What it is
 

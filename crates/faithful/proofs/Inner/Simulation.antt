@@ -1,18 +1,15 @@
 -- One list of instructions does what another does: a step there is a way of steps here, with its cost in steps of the base known.
 -- Simulations compose, and keep the cost. At the end, how a deed of the first list is done by records of the second.
 use mathlib.Core.Path.{_≡_, refl, sym, ap, _∙_, subst}
-use Prim.Native.Nat.{ℕ, zero, suc, _+_, _≤_, _<_, zero-le}
+use Prim.Native.Nat.{_≤_, zero-le}
 use native.Mathlib.Omega.{arith}
-use mathlib.Core.Bool.{Bool, true, false, not, cond}
-use mathlib.Core.Option.{Option, none, some}
-use mathlib.Core.List.{List, [], _∷_}
-use lib.ListN.{length, getElem?}
+use Rattle.rules.specs.Words.{ℕ, zero, suc, _+_, Bool, true, false, not, cond, Option, none, some, List, [], _∷_, length}
 use Rattle.rules.specs.declared.Status.{Status}
 use Rattle.rules.specs.Instruction.{Act, push, Op, act, test, jump, label, goto, goto2, header, separator, end, call, return}
 use Rattle.rules.specs.Numbers.{at, moveTo}
 use Rattle.rules.specs.Stack.{top, equals}
-use Rattle.rules.specs.Step.{Deed, ask, leap, enter, leave, deed, Mem, Reply, did, stops, perform, Out, go, halt, agree, branch, does, stepAt, step}
-use Rattle.faithful.proofs.Places.{move-in}
+use Rattle.rules.specs.Step.{Deed, ask, leap, enter, deed, Mem, Reply, did, stops, perform, Out, go, halt, agree, branch, does, stepAt, step}
+use Rattle.faithful.proofs.Inner.Places.{move-in}
 
 -- ## What a step costs in the base
 

@@ -1,30 +1,27 @@
 -- Stage 1, labels: the records stay where they are and do what they did. And where refusal 6 is absent, what it leaves is fit for the
 -- stages that follow.
 use mathlib.Core.Path.{_≡_, refl, sym, ap, _∙_, subst, fun-ext}
-use Prim.Native.Nat.{ℕ, zero, suc, _+_, _≤_}
+use Prim.Native.Nat.{_≤_}
 use native.Mathlib.Numerals.{add-one}
 use native.Mathlib.Omega.{arith}
-use mathlib.Core.Bool.{Bool, true, false, cond, _&&_}
-use mathlib.Core.Option.{Option, none, some}
-use mathlib.Core.List.{List, [], _∷_}
-use lib.ListN.{length, drop, getD}
-use lib.Dec.{eqb}
+use Rattle.rules.specs.Words.{ℕ, zero, suc, _+_, Bool, true, false, cond, _&&_, Option, none, some, List, [], _∷_, length, drop, getD}
 use Rattle.rules.specs.Instruction.{Sort, conditional, loop, Op, act, test, jump, label, goto, goto2, header, separator, end, call, return}
 use Rattle.rules.specs.Numbers.{at, each, moveTo}
-use Rattle.rules.specs.Nesting.{Bracket, bracket}
+use Rattle.rules.specs.Nesting.{bracket}
 use Rattle.rules.specs.Skip.{adding, plainTest, skipFrom, skip}
-use Rattle.rules.specs.Partners.{Role, roleOf, role, endAt, endFrom, separatorAt, separatorFrom, endOf, separatorOf, opening, isHeader, headerUpTo, headerOf}
+use Rattle.rules.specs.Partners.{roleOf, role, endAt, endFrom, separatorAt, separatorFrom, endOf, separatorOf, opening, isHeader, headerUpTo, headerOf}
 use Rattle.rules.specs.Conditionals.{itsSeparator}
-use Rattle.rules.specs.Labels.{target, target2, unlabel, labels}
-use Rattle.rules.specs.Step.{Deed, leap, ask, deed, Mem, Out, does, stepAt, step}
+use Rattle.rules.specs.Labels.{unlabel, labels}
+use Rattle.rules.specs.Step.{deed, Mem, stepAt, step}
 use Rattle.rules.specs.Run.{startOf}
 use Rattle.rules.proofs.Records.{All, at-getD, at-none, at-zero}
 use Rattle.rules.proofs.SecondLevel.{each-getD}
 use Rattle.rules.proofs.Length.{labels-length}
 use Rattle.rules.proofs.Computes.{computes}
-use Rattle.faithful.proofs.Places.{in-or-out}
-use Rattle.faithful.proofs.Simulation.{cost, costOf, costAt, Sim, stay, first}
-use Rattle.faithful.proofs.Stage.{rank, Calm, Good, Numbered, Staged}
+use Rattle.faithful.proofs.Inner.Places.{in-or-out}
+use Rattle.faithful.proofs.Inner.Simulation.{cost, costOf, costAt, Sim, stay, first}
+use Rattle.faithful.proofs.Inner.Turns.{rank, Calm, Good, Numbered}
+use Rattle.faithful.proofs.Inner.Stage.{Staged}
 
 module _ (L : List Op) where
   -- What is alike of labels, gotos and jumps is alike of a record and what it becomes.
