@@ -105,4 +105,6 @@ no-faults nt i (r ∷ rs) h = rw (no-fault nt i r (bytesOf rs) (h .0)) (no-fault
 
 pub accepted : (nt : Notation) (rs : List Rec) → length rs ≤ most nt → All (Fine nt) rs → checkRecords nt (bytesOf rs) ≡ Accepted (length rs)
 unfolding checkRecords verdict verdictOf recordChecks first orElse when ragged long
-accepted nt rs l h = rw (eq-eqb (length (bytesOf rs) % 8) 0 (omega (arith, bytes-length rs)), bytes-count rs, le-ltb (most nt) (length rs) l, no-faults nt 1 rs h)
+accepted nt rs l h =
+    let e : length (bytesOf rs) % 8 ≡ 0 = omega (arith, bytes-length rs) in
+    rw (eq-eqb (length (bytesOf rs) % 8) 0 e, bytes-count rs, le-ltb (most nt) (length rs) l, no-faults nt 1 rs h)

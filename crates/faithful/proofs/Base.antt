@@ -35,7 +35,8 @@ first-of false b c d h = absurd (let z : _≡_ {A = ℕ} 0 1 = cc in omega arith
 from-one : (k : ℕ) (a : Act) {w : Row} → rowOf Routine k ≡ some w → w .xmin ≡ 1 → fieldFault Routine (actRec k a) ≡ false → FromOne a
 unfolding computes
 from-one k (outside n) {w} r m e =
-    leb-true 1 n (ap (λ (l : ℕ). leb l n) (sym m) ∙ first-of (leb (w .xmin) n) _ _ _ (subst (λ (o : Option Row). not (inRow o (actRec k (outside n)) || false) ≡ false) r e))
+    let f : leb (w .xmin) n ≡ true = first-of _ _ _ _ (subst (λ (o : Option Row). not (inRow o (actRec k (outside n)) || false) ≡ false) r e) in
+    leb-true 1 n (ap (λ (l : ℕ). leb l n) (sym m) ∙ f)
 from-one k (push y) r m e = tt
 from-one k pop r m e = tt
 from-one k (compare y) r m e = tt

@@ -132,7 +132,8 @@ costed L zero i m j m₁ e =
     record { total = 0; way = subst (λ (x : ℕ). Way L i m x m₁ 0) e₀ (subst (λ (y : Mem). Way L i m i y 0) e₁ (stay refl)); low = omega arith; high = zero-le }
 costed L (suc s) i m j m₁ e = by (step L i m) refl e (λ k m₂ h. costed L s k m₂ j m₁ h)
   where
-    by : (o : Out) → step L i m ≡ o → andThen (λ k m₂. after L s k m₂) o ≡ go j m₁ → ((k : ℕ) (m₂ : Mem) → after L s k m₂ ≡ go j m₁ → Costed L s k m₂ j m₁) → Costed L (suc s) i m j m₁
+    by : (o : Out) → step L i m ≡ o → andThen (λ k m₂. after L s k m₂) o ≡ go j m₁
+        → ((k : ℕ) (m₂ : Mem) → after L s k m₂ ≡ go j m₁ → Costed L s k m₂ j m₁) → Costed L (suc s) i m j m₁
     by (go k m₂) a b ih =
         let r = ih k m₂ b in
         let c = step-cost L i m in
@@ -166,14 +167,16 @@ same-status {L} {L′} {P} S i m = by (step L i m) refl
 
 pub demand3 : Demand3
 demand3 L a replies log s i m e =
-    let w = costed L s (startOf L) (freshMem replies log) i m e in
+    let m₀ = freshMem replies log in
+    let w = costed L s (startOf L) m₀ i m e in
     let c = converted L a in
+    let flat = base-cost (convert L) (c .good) in
     record {
       count = w .total;
       place = placeOf L i;
       at-least = w .low;
       at-most = w .high;
-      same = ap (λ (p : ℕ). after (convert L) (w .total) p (freshMem replies log)) (c .starts) ∙ way-after (convert L) (base-cost (convert L) (c .good)) (lift (c .sim) (w .way));
+      same = ap (λ (p : ℕ). after (convert L) (w .total) p m₀) (c .starts) ∙ way-after (convert L) flat (lift (c .sim) (w .way));
       alike = same-status (c .sim) i m;
     }
 
@@ -193,7 +196,8 @@ run-of L zero (suc b) i m j m₁ w e h g =
     rw (e₀, e₁) (ap (onward j m₁ (λ x y. run L b x y)) h)
 run-of L (suc c) (suc b) i m j m₁ w e h g = by (step L i m) e (λ k m₂ e₁. run-of L c b k m₂ j m₁ w e₁ h (omega arith))
   where
-    by : (o : Out) → andThen (λ k m₂. after L c k m₂) o ≡ go j m₁ → ((k : ℕ) (m₂ : Mem) → after L c k m₂ ≡ go j m₁ → run L b k m₂ ≡ record { position = j; mem = m₁; steps = c; status = w })
+    by : (o : Out) → andThen (λ k m₂. after L c k m₂) o ≡ go j m₁
+        → ((k : ℕ) (m₂ : Mem) → after L c k m₂ ≡ go j m₁ → run L b k m₂ ≡ record { position = j; mem = m₁; steps = c; status = w })
         → onward i m (λ x y. run L b x y) o ≡ record { position = j; mem = m₁; steps = suc c; status = w }
     by (go k m₂) a ih = ap oneMore (ih k m₂ a)
     by (halt s) a ih = absurd (go-halt a)
@@ -223,12 +227,13 @@ demand3-run L a replies log b h =
     let r = runs L replies log b in
     let k = run-is L b (startOf L) (freshMem replies log) h in
     let d = demand3 L a replies log (r .steps) (r .position) (r .mem) (k .0) in
+    let stop = stop-halt _ _ (d .alike ∙ ap why (k .1)) in
     record {
       count = d .count;
       place = d .place;
       at-least = d .at-least;
       at-most = d .at-most;
-      same = λ larger x. run-of (convert L) (d .count) larger (startOf (convert L)) (freshMem replies log) (d .place) (r .mem) (r .status) (d .same) (stop-halt _ _ (d .alike ∙ ap why (k .1))) x;
+      same = λ larger x. run-of (convert L) (d .count) larger (startOf (convert L)) (freshMem replies log) (d .place) (r .mem) (r .status) (d .same) stop x;
     }
 
 -- ## Of an accepted file
@@ -246,7 +251,8 @@ demand3-file f n e replies log =
 abbrev pub start36 : Mem
 start36 = freshMem (1 ∷ 1 ∷ []) (7 ∷ 7 ∷ 7 ∷ 7 ∷ 7 ∷ [])
 
-pub five : after there-and-back 5 (startOf there-and-back) start36 ≡ go 0 (record { stack = fresh; replies = 1 ∷ 1 ∷ []; used = 2; log = 2 ∷ 0 ∷ 1 ∷ 0 ∷ 7 ∷ []; logged = 2 })
+pub five : after there-and-back 5 (startOf there-and-back) start36
+    ≡ go 0 (record { stack = fresh; replies = 1 ∷ 1 ∷ []; used = 2; log = 2 ∷ 0 ∷ 1 ∷ 0 ∷ 7 ∷ []; logged = 2 })
 unfolding computes
 five = refl
 

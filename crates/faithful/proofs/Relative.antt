@@ -35,19 +35,21 @@ record Turned (i : ℕ) (r q : Rec) : Type 0 where
 abbrev Turns : ℕ → Rec → Type 0
 Turns i r = (q : Rec) × Turned i r q
 
-number-fine : (k x : ℕ) → fieldFault Relative (rec k x 0) ≡ fieldFault Base (rec 4 x 0) → Checks.listed (rowOf Relative k) ≡ true → x ≤ 9999 → Fine Relative (rec k x 0)
+number-fine : (k x : ℕ) → rowOf Relative k ≡ rowOf Base 4 → x ≤ 9999 → Fine Relative (rec k x 0)
 unfolding computes
-number-fine k x e l h = record { kind-listed = l; fields-in = e ∙ rw (leb·zero x, le-leb x 9999 h); small = omega arith }
+number-fine k x e h = record { kind-listed = ap Checks.listed e; fields-in = rw (e, leb·zero x, le-leb x 9999 h); small = omega arith }
 
 jump-turns : (i k : ℕ) → 1 ≤ i → i ≤ 9999 → k ≤ 9999 → Turns i (rec 4 k 0)
 unfolding computes
-jump-turns i zero l h f = (rec 19 0 0, record { becomes = refl; listed = record { kind-listed = refl; fields-in = refl; small = omega arith }; back = refl; near = f })
+jump-turns i zero l h f =
+    let stop : Fine Relative (rec 19 0 0) = record { kind-listed = refl; fields-in = refl; small = omega arith } in
+    (rec 19 0 0, record { becomes = refl; listed = stop; back = refl; near = f })
 jump-turns i (suc k) l h f = in-or-out (suc k) i
     (λ g. (
       rec 17 (suc k - i) 0,
       record {
         becomes = rw (le-leb i (suc k) g);
-        listed = number-fine 17 (suc k - i) refl refl (omega arith);
+        listed = number-fine 17 (suc k - i) refl (omega arith);
         back = ap (λ (x : ℕ). rec 4 x 0) (omega arith);
         near = f;
       },
@@ -56,14 +58,15 @@ jump-turns i (suc k) l h f = in-or-out (suc k) i
       rec 18 (i - suc k) 0,
       record {
         becomes = rw (lt-leb i (suc k) g);
-        listed = number-fine 18 (i - suc k) refl refl (omega arith);
+        listed = number-fine 18 (i - suc k) refl (omega arith);
         back = rw (lt-ltb (i - suc k) i (omega arith)) (ap (λ (x : ℕ). rec 4 x 0) (omega arith));
         near = f;
       },
     ))
 
 -- A record of kind 1 to 3 stays.
-stays : (i k : ℕ) (a : Act) → relativeAt i (actRec k a) ≡ actRec k a → absoluteAt i (actRec k a) ≡ actRec k a → Fine Relative (actRec k a) → FitAct a → Turns i (actRec k a)
+stays : (i k : ℕ) (a : Act) → relativeAt i (actRec k a) ≡ actRec k a → absoluteAt i (actRec k a) ≡ actRec k a → Fine Relative (actRec k a)
+    → FitAct a → Turns i (actRec k a)
 unfolding xOf
 stays i k a e g f h = (actRec k a, record { becomes = e; listed = f; back = g; near = low a h })
   where

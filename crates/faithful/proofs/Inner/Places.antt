@@ -101,4 +101,6 @@ module _ (to : ℕ → ℕ) where
   move-renumber gs k = ap (moveTo (length (laid to gs))) (renumber-place gs k) ∙ move-place gs (moveTo (length gs) k) ∙ ap (place gs) twice
     where
       twice : moveTo (length gs) (moveTo (length gs) k) ≡ moveTo (length gs) k
-      twice = in-or-out (length gs) k (λ h. ap (moveTo (length gs)) (move-in (length gs) k h)) (λ h. rw (move-out (length gs) k h) (move-in (length gs) 0 zero-le))
+      twice = in-or-out (length gs) k
+          (λ h. ap (moveTo (length gs)) (move-in (length gs) k h))
+          (λ h. rw (move-out (length gs) k h) (move-in (length gs) 0 zero-le))

@@ -55,7 +55,8 @@ back-other : (d k : ℕ) (r : Role) (on : ℕ → ℕ) → r ≡ other → on d 
 unfolding backAt
 back-other d k r on e = ap (λ (x : Role). backAt x d (suc k) on) (sym e)
 
-module _ (k : ℕ) (small : k ≤ 2) (f : ℕ → Op → Group) (L : List Op) (good : Good (suc k) L) (turns : (i : ℕ) (o : Op) → rank o ≤ suc k → Turns L k i o (f i o)) where
+module _ (k : ℕ) (small : k ≤ 2) (f : ℕ → Op → Group) (L : List Op) (good : Good (suc k) L)
+    (turns : (i : ℕ) (o : Op) → rank o ≤ suc k → Turns L k i o (f i o)) where
   abbrev gs : List Group
   gs = each f 1 L
 
@@ -205,7 +206,8 @@ module _ (k : ℕ) (small : k ≤ 2) (f : ℕ → Op → Group) (L : List Op) (g
   abbrev Done : ℕ → Op → Mem → Type 0
   Done j o m = Meets L′ P (suc (pre j)) m (cost (length L) o m) (does (length L) (deed L (suc j) o) m)
 
-  skipping : {j : ℕ} {o : Op} (os : List Op) {x : Op} → One j o os x → Calm true os → moveTo (length L′) (suc (suc (suc (pre j)))) ≡ P (moveTo (length L) (suc (suc (suc j))))
+  skipping : {j : ℕ} {o : Op} (os : List Op) {x : Op} → One j o os x → Calm true os
+      → moveTo (length L′) (suc (suc (suc (pre j)))) ≡ P (moveTo (length L) (suc (suc (suc j))))
   unfolding laid each
   skipping {j} [] u c =
       let w = u .wide in
@@ -230,22 +232,23 @@ module _ (k : ℕ) (small : k ≤ 2) (f : ℕ → Op → Group) (L : List Op) (g
       asked L′ (length L) P (suc (pre j)) m (header conditional v a) a v _ _ _ _ (from-at (u .here)) refl (onward u) (to _ _ (after-separator u r))
   keep {j} (header loop v a) r u m =
       asked L′ (length L) P (suc (pre j)) m (header loop v a) a v _ _ _ _ (from-at (u .here)) refl (onward u) (to _ _ (after-end u loop r))
-  keep {j} separator r u m = leapt L′ (length L) P (suc (pre j)) m separator _ _ (from-at (u .here)) refl refl (to _ _ (after-end u conditional r))
+  keep {j} separator r u m = leapt L′ (length L) P (suc (pre j)) m separator _ _ (from-at (u .here)) refl (to _ _ (after-end u conditional r))
   keep {j} (end conditional) r u m =
-      leapt L′ (length L) P (suc (pre j)) m (end conditional) _ _ (from-at (u .here)) refl refl (to _ _ (has-separator u r refl refl))
-  keep {j} (end loop) r u m = leapt L′ (length L) P (suc (pre j)) m (end loop) _ _ (from-at (u .here)) refl refl (to _ _ (its-header u loop r refl refl))
+      leapt L′ (length L) P (suc (pre j)) m (end conditional) _ _ (from-at (u .here)) refl (to _ _ (has-separator u r refl refl))
+  keep {j} (end loop) r u m = leapt L′ (length L) P (suc (pre j)) m (end loop) _ _ (from-at (u .here)) refl (to _ _ (its-header u loop r refl refl))
   keep (call x) r u m = absurd (omega arith)
   keep return r u m = absurd (omega arith)
 
-  done : {j : ℕ} {o : Op} {os : List Op} (g : Group) → Turns L k (suc j) o g → From L j (o ∷ os) → From L′ (pre j) (map (sent Q) (members g) ++ laidFrom (suc j) os)
-      → pre (suc j) ≡ over (map (sent Q) (members g)) (pre j) → (m : Mem) → Done j o m
+  done : {j : ℕ} {o : Op} {os : List Op} (g : Group) → Turns L k (suc j) o g → From L j (o ∷ os)
+      → From L′ (pre j) (map (sent Q) (members g) ++ laidFrom (suc j) os) → pre (suc j) ≡ over (map (sent Q) (members g)) (pre j) → (m : Mem) → Done j o m
   unfolding members sent deed does cost
   done g (keeps {o = o} r) t t′ w m = keep o (leb→le (rank o) k r) (record { there = t; here = t′; wide = w }) m
   done {j} g (leaps {x = x} d c ot) t t′ w m = rw (c (length L) m, d) (jumped L′ (length L) P (suc (pre j)) m x (Q x) (from-at t′) (jumps x))
   done {j} g (forks {v = v} {a = a} {x = x} r d) t t′ w m =
       rw d (opened L′ (length L) P (suc (pre j)) m a v _ x _ (from-at t′) (from-at (next t′)) (to _ (suc (suc j)) (ap suc (sym w))) (jumps x))
   done {j} g (calls {x = x}) t t′ w m = called L′ (length L) P (suc (pre j)) m _ x _ (from-at t′) (from-at (next t′)) (jumps x)
-  done {j} {os} g (returns r) t t′ w m = by (leaving (length L) (top (m .stack)) m) (chain-runs L′ (length L) P Q jumps (length L) (omega arith) (pre j) (laidFrom (suc j) os) t′ m)
+  done {j} {os} g (returns r) t t′ w m =
+      by (leaving (length L) (top (m .stack)) m) (chain-runs L′ (length L) P Q jumps (length L) (omega arith) (pre j) (laidFrom (suc j) os) t′ m)
     where
       c : ℕ
       c = linkCost (length L) (top (m .stack))
@@ -281,12 +284,13 @@ module _ (k : ℕ) (small : k ≤ 2) (f : ℕ → Op → Group) (L : List Op) (g
   good-laid : (p : ℕ) (os : List Op) → Good (suc k) os → Good k (laid Q (each f p os))
   unfolding laid each
   good-laid p [] g = tt
-  good-laid p (o ∷ os) g = turn-good Q (turns p o (g .0)) (laid Q (each f (suc p) os)) (calm-laid (plainTest o) (suc p) os (g .2) (g .1)) (good-laid (suc p) os (g .2))
+  good-laid p (o ∷ os) g = turn-good Q (turns p o (g .0)) _ (calm-laid (plainTest o) (suc p) os (g .2) (g .1)) (good-laid (suc p) os (g .2))
 
   numbered-laid : (p : ℕ) (os : List Op) → Good (suc k) os → All Numbered os → All Numbered (laid Q (each f p os))
   unfolding laid each
   numbered-laid p [] g h = tt
-  numbered-laid p (o ∷ os) g h = all-append Numbered (map (sent Q) (members (f p o))) _ (turn-numbered Q (turns p o (g .0)) (h .0)) (numbered-laid (suc p) os (g .2) (h .1))
+  numbered-laid p (o ∷ os) g h =
+      all-append Numbered (map (sent Q) (members (f p o))) _ (turn-numbered Q (turns p o (g .0)) (h .0)) (numbered-laid (suc p) os (g .2) (h .1))
 
   pub staged : Staged k L (removed gs) P
   unfolding removed startOf

@@ -182,8 +182,8 @@ chain-numbered : (to : ℕ → ℕ) (j : ℕ) → All Numbered (map (sent to) (m
 unfolding members sent chain
 chain-numbered to zero = (tt, tt)
 chain-numbered to (suc j) =
-    let xs = map (sent to) (members (chain j)) in
-    (tt, (tt, (tt, (tt, rw (map-append (sent to) (members (chain j)) (end conditional ∷ [])) (all-append Numbered xs (end conditional ∷ []) (chain-numbered to j) (tt, tt))))))
+    let c = all-append Numbered (map (sent to) (members (chain j))) (end conditional ∷ []) (chain-numbered to j) (tt, tt) in
+    (tt, (tt, (tt, (tt, rw (map-append (sent to) (members (chain j)) (end conditional ∷ [])) c))))
 
 pub turn-numbered : {L : List Op} {k i : ℕ} {o : Op} {g : Group} (to : ℕ → ℕ) → Turns L k i o g → Numbered o → All Numbered (map (sent to) (members g))
 unfolding members sent
