@@ -25,10 +25,10 @@ use Rattle.faithful.proofs.Inner.Places.{place}
 use Rattle.faithful.proofs.Inner.Simulation.{forkCost, linkCost, cost, costOf, costAt, Way, stay, on, Sim, both, lift, at-in}
 use Rattle.faithful.proofs.Inner.Turns.{rank, Good}
 use Rattle.faithful.proofs.Inner.Stage.{Staged}
-use Rattle.faithful.proofs.Inner.Labels.{labels-staged}
-use Rattle.faithful.proofs.Inner.Calls.{calls-staged}
-use Rattle.faithful.proofs.Inner.Loops.{loops-staged}
-use Rattle.faithful.proofs.Inner.Conditionals.{conditionals-staged}
+use Rattle.faithful.proofs.Labels.{labels-staged}
+use Rattle.faithful.proofs.Calls.{calls-staged}
+use Rattle.faithful.proofs.Loops.{loops-staged}
+use Rattle.faithful.proofs.Conditionals.{conditionals-staged}
 
 -- ## The four stages together
 

@@ -1,7 +1,12 @@
 pub mod Demand
+pub mod Labels
+pub mod Calls
+pub mod Loops
+pub mod Conditionals
 pub mod Grammar
 pub mod Partners
 pub mod Accepted
 pub mod Base
 pub mod Relative
+pub mod Audit
 pub mod Inner
