@@ -24,7 +24,7 @@ use Rattle.rules.proofs.Fits.{stages-fit, fit-ops}
 use Rattle.faithful.specs.Promises.{Length, BaseAccepted}
 use Rattle.faithful.proofs.Inner.Turns.{rank, Good, FromOne, Numbered}
 use Rattle.faithful.proofs.Demand.{converted}
-use Rattle.faithful.proofs.Accepted.{admitted, Fine, accepted}
+use Rattle.faithful.proofs.Accepted.{admitted, Proper, accepted}
 
 -- ## An accepted routine's outside actions are numbered from 1 on
 
@@ -65,33 +65,33 @@ numbered (r ∷ rs) h = (numbered-one (decode r) (ap (fieldFault Routine) (accep
 
 -- ## A record of a base
 
-fine-act : (k : ℕ) (a : Act) → rowOf Base k ≡ rowOf Base 1 → names 3 k ≡ true → FitAct a → FromOne a → Fine Base (actRec k a)
+proper-act : (k : ℕ) (a : Act) → rowOf Base k ≡ rowOf Base 1 → names 3 k ≡ true → FitAct a → FromOne a → Proper Base (actRec k a)
 unfolding computes
-fine-act k (outside n) r e f g = record { kind-listed = ap listed r; fields-in = rw (r, le-leb 1 n g, le-leb n 999 f); small = omega arith }
-fine-act k (push y) r e f g = record { kind-listed = ap listed r; fields-in = rw (r, e, le-leb y 9999 f); small = omega arith }
-fine-act k pop r e f g = record { kind-listed = ap listed r; fields-in = rw (r, e); small = omega arith }
-fine-act k (compare y) r e f g = record { kind-listed = ap listed r; fields-in = rw (r, e, le-leb y 9999 f); small = omega arith }
+proper-act k (outside n) r e f g = record { kind-listed = ap listed r; fields-in = rw (r, le-leb 1 n g, le-leb n 999 f); small = omega arith }
+proper-act k (push y) r e f g = record { kind-listed = ap listed r; fields-in = rw (r, e, le-leb y 9999 f); small = omega arith }
+proper-act k pop r e f g = record { kind-listed = ap listed r; fields-in = rw (r, e); small = omega arith }
+proper-act k (compare y) r e f g = record { kind-listed = ap listed r; fields-in = rw (r, e, le-leb y 9999 f); small = omega arith }
 
-fine : (o : Op) → rank o ≤ 0 → Fit o → Numbered o → Fine Base (encode o)
+proper : (o : Op) → rank o ≤ 0 → Fit o → Numbered o → Proper Base (encode o)
 unfolding computes
-fine (act a) r f g = fine-act 1 a refl refl f g
-fine (test true a) r f g = fine-act 2 a refl refl f g
-fine (test false a) r f g = fine-act 3 a refl refl f g
-fine (jump k) r f g = record { kind-listed = refl; fields-in = rw (leb·zero k, le-leb k 9999 f); small = omega arith }
-fine (label s) r f g = absurd (omega arith)
-fine (goto s) r f g = absurd (omega arith)
-fine (goto2 s t) r f g = absurd (omega arith)
-fine (header conditional v a) r f g = absurd (omega arith)
-fine (header loop v a) r f g = absurd (omega arith)
-fine separator r f g = absurd (omega arith)
-fine (end conditional) r f g = absurd (omega arith)
-fine (end loop) r f g = absurd (omega arith)
-fine (call k) r f g = absurd (omega arith)
-fine return r f g = absurd (omega arith)
+proper (act a) r f g = proper-act 1 a refl refl f g
+proper (test true a) r f g = proper-act 2 a refl refl f g
+proper (test false a) r f g = proper-act 3 a refl refl f g
+proper (jump k) r f g = record { kind-listed = refl; fields-in = rw (leb·zero k, le-leb k 9999 f); small = omega arith }
+proper (label s) r f g = absurd (omega arith)
+proper (goto s) r f g = absurd (omega arith)
+proper (goto2 s t) r f g = absurd (omega arith)
+proper (header conditional v a) r f g = absurd (omega arith)
+proper (header loop v a) r f g = absurd (omega arith)
+proper separator r f g = absurd (omega arith)
+proper (end conditional) r f g = absurd (omega arith)
+proper (end loop) r f g = absurd (omega arith)
+proper (call k) r f g = absurd (omega arith)
+proper return r f g = absurd (omega arith)
 
-all-fine : (os : List Op) → Good 0 os → All Fit os → All Numbered os → All (Fine Base) (map encode os)
-all-fine [] r f g = tt
-all-fine (o ∷ os) r f g = (fine o (r .0) (f .0) (g .0), all-fine os (r .2) (f .1) (g .1))
+all-proper : (os : List Op) → Good 0 os → All Fit os → All Numbered os → All (Proper Base) (map encode os)
+all-proper [] r f g = tt
+all-proper (o ∷ os) r f g = (proper o (r .0) (f .0) (g .0), all-proper os (r .2) (f .1) (g .1))
 
 -- ## The base
 
@@ -126,13 +126,13 @@ base-accepted s n e =
     let a = admitted s n e in
     let L = ops s in
     let c = converted L (a .allowed) in
-    let f = stages-fit L (a .room) (accepted-ops Routine s (a .records .faultless) tt) .fourth in
-    let g = c .numbers (numbered (records s) (no-faults Routine 1 (count s) s (a .records .faultless))) in
+    let f = stages-fit L (a .room) (accepted-ops Routine s (a .fines .faultless) tt) .fourth in
+    let g = c .numbers (numbered (records s) (no-faults Routine 1 (count s) s (a .fines .faultless))) in
     let l = length-map (convert L) encode ∙ converted-length L in
     let r = a .room in
     record {
       kinds = kinds (convert L) (c .good);
-      checked = accepted Base (map encode (convert L)) (omega arith) (all-fine (convert L) (c .good) f g) ∙ ap Accepted l;
+      checked = accepted Base (map encode (convert L)) (omega arith) (all-proper (convert L) (c .good) f g) ∙ ap Accepted l;
       read-back = fit-ops (convert L) f;
     }
   where

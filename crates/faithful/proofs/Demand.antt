@@ -241,7 +241,7 @@ demand3-run L a replies log b h =
 pub demand3-file : Demand3File
 demand3-file f n e replies log =
     let a = admitted f n e in
-    let l : length (ops f) ≡ n = ops-length f ∙ a .records .counted in (
+    let l : length (ops f) ≡ n = ops-length f ∙ a .counted in (
       λ s i m g. subst (λ (k : ℕ). Follows k (ops f) replies log s i m) l (demand3 (ops f) (a .allowed) replies log s i m g),
       λ b h. subst (λ (k : ℕ). RunFollows k (ops f) replies log (runs (ops f) replies log b)) l (demand3-run (ops f) (a .allowed) replies log b h),
     )

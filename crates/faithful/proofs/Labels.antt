@@ -48,7 +48,8 @@ module _ (L : List Op) where
   at-alike F G zero e h = e
   at-alike {A} F G (suc j) e h = by 1 L j (λ o. subst (λ (i : ℕ). F (some (unlabel L i o)) ≡ G (some o)) (omega arith) (h o))
     where
-      by : (p : ℕ) (os : List Op) (j : ℕ) → ((o : Op) → F (some (unlabel L (j + p) o)) ≡ G (some o)) → F (getElem? (each (unlabel L) p os) j) ≡ G (getElem? os j)
+      by : (p : ℕ) (os : List Op) (j : ℕ) → ((o : Op) → F (some (unlabel L (j + p) o)) ≡ G (some o))
+          → F (getElem? (each (unlabel L) p os) j) ≡ G (getElem? os j)
       by p [] j h = e
       by p (o ∷ os) zero h = subst (λ (i : ℕ). F (some (unlabel L i o)) ≡ G (some o)) (omega arith) (h o)
       by p (o ∷ os) (suc j) h = by (suc p) os j (λ x. subst (λ (i : ℕ). F (some (unlabel L i x)) ≡ G (some x)) (omega arith) (h x))

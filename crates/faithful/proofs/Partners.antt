@@ -110,7 +110,8 @@ module _ (L : List Op) where
   covered-at (x ∷ os) i (suc j) o c e = subst (λ (k : ℕ). Belongs L k o) (omega arith) (covered-at os (suc i) j o (c .1) e)
 
   -- Records, behind them an end or a separator, and what follows.
-  then : (xs : List Op) (j : ℕ) (o : Op) (os : List Op) → Covered (suc j) xs → Belongs L (suc (over xs j)) o → Covered (suc (suc (over xs j))) os → Covered (suc j) (xs ++ (o ∷ os))
+  then : (xs : List Op) (j : ℕ) (o : Op) (os : List Op) → Covered (suc j) xs → Belongs L (suc (over xs j)) o → Covered (suc (suc (over xs j))) os
+      → Covered (suc j) (xs ++ (o ∷ os))
   then xs j o os c b d = covered-append xs (o ∷ os) (suc j) c (rw (over-suc xs j) (b, d))
 
   -- A body behind the first j records of L, and more behind it.

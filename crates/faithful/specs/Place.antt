@@ -33,5 +33,6 @@ pub data Misfit : Op → List Item → Type 0 where
 
 -- The first that does not fit: the records before it could be read. Or all could be read, and h is the lowest header left open.
 pub data Place5 (L : List Op) : ℕ → Type 0 where
-  misfit : {xs : List Op} {o : Op} {s : List Item} (rest : List Op) → L ≡ xs ++ (o ∷ rest) → Leaves xs s → Misfit o s → Place5 L (suc (length xs))
+  misfit : {xs : List Op} {o : Op} {s : List Item} (rest : List Op) → L ≡ xs ++ (o ∷ rest) → Leaves xs s → Misfit o s
+      → Place5 L (suc (length xs))
   unclosed : {s : List Item} {h : ℕ} → Leaves L s → IsOpen h s → ((k : ℕ) → IsOpen k s → h ≤ k) → Place5 L h

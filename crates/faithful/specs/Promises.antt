@@ -44,7 +44,8 @@ pub record RunFollows (n : ℕ) (L : List Op) (replies log : List ℕ) (ran : Ru
   pub place : ℕ
   pub at-least : ran .steps ≤ count
   pub at-most : count ≤ (2 * n + 1) * ran .steps
-  pub same : (budget : ℕ) → count < budget → runs (convert L) replies log budget ≡ record { position = place; mem = ran .mem; steps = count; status = ran .status }
+  pub same : (budget : ℕ) → count < budget
+      → runs (convert L) replies log budget ≡ record { position = place; mem = ran .mem; steps = count; status = ran .status }
 
 abbrev pub Demand3Run : Type 0
 Demand3Run =

@@ -157,7 +157,8 @@ module _ (L′ : List Op) (n : ℕ) (P : ℕ → ℕ) where
 
   module _ (q : ℕ) (m : Mem) where
     -- A step of cost 1 to the jump that stands next.
-    then-jumps : {m₁ : Mem} (k k′ : ℕ) → step L′ q m ≡ go (here (suc q)) m₁ → costAt L′ q m ≡ 1 → at L′ (suc q) ≡ some (jump k′) → Goes k′ k → Way L′ q m (P (there k)) m₁ 2
+    then-jumps : {m₁ : Mem} (k k′ : ℕ) → step L′ q m ≡ go (here (suc q)) m₁ → costAt L′ q m ≡ 1 → at L′ (suc q) ≡ some (jump k′) → Goes k′ k
+        → Way L′ q m (P (there k)) m₁ 2
     then-jumps {m₁} k k′ s c e g = first (s ∙ ap (λ (z : ℕ). go z m₁) (in-place (suc q) _ e)) (jumped (suc q) m₁ k k′ e g) (omega arith)
 
     -- A header that became the test turned round, and a jump.
@@ -171,7 +172,8 @@ module _ (L′ : List Op) (n : ℕ) (P : ℕ → ℕ) where
         turned false true = refl
         turned false false = refl
 
-        two : (b : Bool) (m₁ : Mem) → step L′ q m ≡ go (cond (not b) (here (suc q)) (here (suc (suc q)))) m₁ → Way L′ q m (P (cond b (there t) (there f))) m₁ (cond b 1 2)
+        two : (b : Bool) (m₁ : Mem) → step L′ q m ≡ go (cond (not b) (here (suc q)) (here (suc (suc q)))) m₁
+            → Way L′ q m (P (cond b (there t) (there f))) m₁ (cond b 1 2)
         two true m₁ s = steps-to q m e s g
         two false m₁ s = then-jumps f f′ s (cost-is L′ q _ m e) e₁ h
 
