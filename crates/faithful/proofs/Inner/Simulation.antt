@@ -1,18 +1,15 @@
 -- One list of instructions does what another does: a step there is a way of steps here, with its cost in steps of the base known.
 -- Simulations compose, and keep the cost. At the end, how a deed of the first list is done by records of the second.
 use mathlib.Core.Path.{_≡_, refl, sym, ap, _∙_, subst}
-use Prim.Native.Nat.{ℕ, zero, suc, _+_, _≤_, _<_, zero-le}
+use Prim.Native.Nat.{_≤_, zero-le}
 use native.Mathlib.Omega.{arith}
-use mathlib.Core.Bool.{Bool, true, false, not, cond}
-use mathlib.Core.Option.{Option, none, some}
-use mathlib.Core.List.{List, [], _∷_}
-use lib.ListN.{length, getElem?}
+use Rattle.rules.specs.Words.{ℕ, zero, suc, _+_, Bool, true, false, not, cond, Option, none, some, List, [], _∷_, length}
 use Rattle.rules.specs.declared.Status.{Status}
 use Rattle.rules.specs.Instruction.{Act, push, Op, act, test, jump, label, goto, goto2, header, separator, end, call, return}
 use Rattle.rules.specs.Numbers.{at, moveTo}
 use Rattle.rules.specs.Stack.{top, equals}
-use Rattle.rules.specs.Step.{Deed, ask, leap, enter, leave, deed, Mem, Reply, did, stops, perform, Out, go, halt, agree, branch, does, stepAt, step}
-use Rattle.faithful.proofs.Places.{move-in}
+use Rattle.rules.specs.Step.{Deed, ask, leap, enter, deed, Mem, Reply, did, stops, perform, Out, go, halt, agree, branch, does, stepAt, step}
+use Rattle.faithful.proofs.Inner.Places.{move-in}
 
 -- ## What a step costs in the base
 
@@ -63,7 +60,8 @@ pub data Way (L : List Op) : ℕ → Mem → ℕ → Mem → ℕ → Type 0 wher
   on : {i : ℕ} {m : Mem} {j : ℕ} {m₁ : Mem} {k : ℕ} {m₂ : Mem} {b c : ℕ} → step L i m ≡ go j m₁ → Way L j m₁ k m₂ b → c ≡ costAt L i m + b → Way L i m k m₂ c
 
 -- As a function: its numbers are then known where `omega` is to prove the sum.
-pub first : {L : List Op} {i : ℕ} {m : Mem} {j : ℕ} {m₁ : Mem} {k : ℕ} {m₂ : Mem} {b c : ℕ} → step L i m ≡ go j m₁ → Way L j m₁ k m₂ b → c ≡ costAt L i m + b → Way L i m k m₂ c
+pub first : {L : List Op} {i : ℕ} {m : Mem} {j : ℕ} {m₁ : Mem} {k : ℕ} {m₂ : Mem} {b c : ℕ}
+    → step L i m ≡ go j m₁ → Way L j m₁ k m₂ b → c ≡ costAt L i m + b → Way L i m k m₂ c
 first e w h = on e w h
 
 join : {L : List Op} {i : ℕ} {m : Mem} {j : ℕ} {m₁ : Mem} {k : ℕ} {m₂ : Mem} {b c : ℕ} → Way L i m j m₁ b → Way L j m₁ k m₂ c → Way L i m k m₂ (b + c)
@@ -101,7 +99,8 @@ simulated L L′ P met gone = record { steps = λ i m j m₁ e. s i m j m₁ e (
   where
     s : (i : ℕ) (m : Mem) (j : ℕ) (m₁ : Mem) → step L i m ≡ go j m₁ → (x : Option Op) → at L i ≡ x → Way L′ (P i) m (P j) m₁ (costAt L i m)
     s i m j m₁ e none a = absurd (go-halt (sym (ap (λ (x : Option Op). stepAt L i x m) a) ∙ e))
-    s i m j m₁ e (some o) a = rw (cost-is L i o m a) (subst (λ (x : Out). Meets L′ P (P i) m (cost (length L) o m) x) (sym (step-is L i o m a) ∙ e) (met i o a m))
+    s i m j m₁ e (some o) a =
+        rw (cost-is L i o m a) (subst (λ (x : Out). Meets L′ P (P i) m (cost (length L) o m) x) (sym (step-is L i o m a) ∙ e) (met i o a m))
 
     h : (i : ℕ) (m : Mem) (w : Status) → step L i m ≡ halt w → (x : Option Op) → at L i ≡ x → step L′ (P i) m ≡ halt w
     h i m w e none a = ap (λ (x : Option Op). stepAt L′ (P i) x m) (gone i a) ∙ sym (ap (λ (x : Option Op). stepAt L i x m) a) ∙ e
@@ -117,37 +116,51 @@ at-in (y ∷ ys) (suc zero) x e = omega arith
 at-in (y ∷ ys) (suc (suc k)) x e = omega (arith, at-in ys (suc k) x e)
 
 module _ (L′ : List Op) (n : ℕ) (P : ℕ → ℕ) where
+  abbrev here : ℕ → ℕ
+  here = moveTo (length L′)
+
+  abbrev there : ℕ → ℕ
+  there = moveTo n
+
   -- A number here that leads where the number there does.
   abbrev pub Goes : ℕ → ℕ → Type 0
-  Goes t′ t = moveTo (length L′) t′ ≡ P (moveTo n t)
+  Goes t′ t = here t′ ≡ P (there t)
 
-  pub here : (q : ℕ) (o : Op) → at L′ q ≡ some o → moveTo (length L′) q ≡ q
-  here q o e = move-in (length L′) q (at-in L′ q o e)
+  pub in-place : (q : ℕ) (o : Op) → at L′ q ≡ some o → here q ≡ q
+  in-place q o e = move-in (length L′) q (at-in L′ q o e)
 
   chosen : (b : Bool) (t f t′ f′ : ℕ) → t′ ≡ P t → f′ ≡ P f → cond b t′ f′ ≡ P (cond b t f)
   chosen true t f t′ f′ e g = e
   chosen false t f t′ f′ e g = g
 
   module _ (q : ℕ) (m : Mem) where
+    -- One step that goes where it should.
+    steps-to : {o : Op} {p p′ : ℕ} {m₁ : Mem} → at L′ q ≡ some o → step L′ q m ≡ go p′ m₁ → p′ ≡ P p → Way L′ q m (P p) m₁ (cost (length L′) o m)
+    steps-to {o} {m₁} e s g = first (s ∙ ap (λ (z : ℕ). go z m₁) g) (stay refl) (omega (arith, cost-is L′ q o m e))
+
     pub asked : (o : Op) (a : Act) (v : Bool) (t f t′ f′ : ℕ) → at L′ q ≡ some o → deed L′ q o ≡ ask a v t′ f′ → Goes t′ t → Goes f′ f
         → Meets L′ P q m (cost (length L′) o m) (does n (ask a v t f) m)
     unfolding does branch
     asked o a v t f t′ f′ e d g h = by (perform a m) (step-is L′ q o m e ∙ ap (λ (x : Deed). does (length L′) x m) d)
       where
-        by : (x : Reply) → step L′ q m ≡ branch v (moveTo (length L′) t′) (moveTo (length L′) f′) x → Meets L′ P q m (cost (length L′) o m) (branch v (moveTo n t) (moveTo n f) x)
-        by (did r m₁) s = first (s ∙ ap (λ (z : ℕ). go z m₁) (chosen (agree v r) (moveTo n t) (moveTo n f) _ _ g h)) (stay refl) (omega (arith, cost-is L′ q o m e))
+        by : (x : Reply) → step L′ q m ≡ branch v (here t′) (here f′) x → Meets L′ P q m (cost (length L′) o m) (branch v (there t) (there f) x)
+        by (did r m₁) s = steps-to e s (chosen (agree v r) (there t) (there f) _ _ g h)
         by (stops w) s = s
 
-    pub leapt : (o : Op) (k k′ : ℕ) → at L′ q ≡ some o → deed L′ q o ≡ leap k′ → cost (length L′) o m ≡ 1 → Goes k′ k → Way L′ q m (P (moveTo n k)) m 1
+    pub leapt : (o : Op) (k k′ : ℕ) → at L′ q ≡ some o → deed L′ q o ≡ leap k′ → Goes k′ k → Way L′ q m (P (there k)) m (cost (length L′) o m)
     unfolding does
-    leapt o k k′ e d c g = first (step-is L′ q o m e ∙ ap (λ (x : Deed). does (length L′) x m) d ∙ ap (λ (z : ℕ). go z m) g) (stay refl) (omega (arith, cost-is L′ q o m e))
+    leapt o k k′ e d g = steps-to e (step-is L′ q o m e ∙ ap (λ (x : Deed). does (length L′) x m) d) g
+
+  pub jumped : (q : ℕ) (m : Mem) (k k′ : ℕ) → at L′ q ≡ some (jump k′) → Goes k′ k → Way L′ q m (P (there k)) m 1
+  unfolding deed cost
+  jumped q m k k′ e g = leapt q m (jump k′) k k′ e refl g
 
   module _ (q : ℕ) (m : Mem) where
-    pub jumped : (k k′ : ℕ) → at L′ q ≡ some (jump k′) → Goes k′ k → Way L′ q m (P (moveTo n k)) m 1
-    unfolding deed cost
-    jumped k k′ e g = leapt q m (jump k′) k k′ e refl refl g
+    -- A step of cost 1 to the jump that stands next.
+    then-jumps : {m₁ : Mem} (k k′ : ℕ) → step L′ q m ≡ go (here (suc q)) m₁ → costAt L′ q m ≡ 1 → at L′ (suc q) ≡ some (jump k′) → Goes k′ k
+        → Way L′ q m (P (there k)) m₁ 2
+    then-jumps {m₁} k k′ s c e g = first (s ∙ ap (λ (z : ℕ). go z m₁) (in-place (suc q) _ e)) (jumped (suc q) m₁ k k′ e g) (omega arith)
 
-  module _ (q : ℕ) (m : Mem) where
     -- A header that became the test turned round, and a jump.
     pub opened : (a : Act) (v : Bool) (t f f′ : ℕ) → at L′ q ≡ some (test (not v) a) → at L′ (suc q) ≡ some (jump f′) → Goes (suc (suc q)) t → Goes f′ f
         → Meets L′ P q m (forkCost v (perform a m)) (does n (ask a v t f) m)
@@ -159,12 +172,13 @@ module _ (L′ : List Op) (n : ℕ) (P : ℕ → ℕ) where
         turned false true = refl
         turned false false = refl
 
-        two : (b : Bool) (m₁ : Mem) → step L′ q m ≡ go (cond (not b) (moveTo (length L′) (suc q)) (moveTo (length L′) (suc (suc q)))) m₁ → Way L′ q m (P (cond b (moveTo n t) (moveTo n f))) m₁ (cond b 1 2)
-        two true m₁ s = first (s ∙ ap (λ (z : ℕ). go z m₁) g) (stay refl) (omega (arith, cost-is L′ q _ m e))
-        two false m₁ s = first (s ∙ ap (λ (z : ℕ). go z m₁) (here (suc q) _ e₁)) (jumped (suc q) m₁ f f′ e₁ h) (omega (arith, cost-is L′ q _ m e))
+        two : (b : Bool) (m₁ : Mem) → step L′ q m ≡ go (cond (not b) (here (suc q)) (here (suc (suc q)))) m₁
+            → Way L′ q m (P (cond b (there t) (there f))) m₁ (cond b 1 2)
+        two true m₁ s = steps-to q m e s g
+        two false m₁ s = then-jumps f f′ s (cost-is L′ q _ m e) e₁ h
 
-        by : (x : Reply) → step L′ q m ≡ branch (not v) (moveTo (length L′) (suc q)) (moveTo (length L′) (suc (suc q))) x → Meets L′ P q m (forkCost v x) (branch v (moveTo n t) (moveTo n f) x)
-        by (did r m₁) s = two (agree v r) m₁ (s ∙ ap (λ (b : Bool). go (cond b (moveTo (length L′) (suc q)) (moveTo (length L′) (suc (suc q)))) m₁) (turned v r))
+        by : (x : Reply) → step L′ q m ≡ branch (not v) (here (suc q)) (here (suc (suc q))) x → Meets L′ P q m (forkCost v x) (branch v (there t) (there f) x)
+        by (did r m₁) s = two (agree v r) m₁ (s ∙ ap (λ (b : Bool). go (cond b (here (suc q)) (here (suc (suc q)))) m₁) (turned v r))
         by (stops w) s = s
 
     -- A call that became a push and a jump.
@@ -176,6 +190,6 @@ module _ (L′ : List Op) (n : ℕ) (P : ℕ → ℕ) where
         same true x = refl
         same false x = refl
 
-        by : (x : Reply) → step L′ q m ≡ branch true (moveTo (length L′) (suc q)) (moveTo (length L′) (suc q)) x → Meets L′ P q m 2 (branch true (moveTo n k) (moveTo n k) x)
-        by (did b m₁) s = rw (same (agree true b) (moveTo n k)) (first (s ∙ ap (λ (z : ℕ). go z m₁) (same (agree true b) _ ∙ here (suc q) _ e₁)) (jumped (suc q) m₁ k k′ e₁ g) (omega (arith, cost-is L′ q _ m e)))
+        by : (x : Reply) → step L′ q m ≡ branch true (here (suc q)) (here (suc q)) x → Meets L′ P q m 2 (branch true (there k) (there k) x)
+        by (did b m₁) s = rw (same (agree true b) (there k)) (then-jumps k k′ (s ∙ ap (λ (z : ℕ). go z m₁) (same (agree true b) _)) (cost-is L′ q _ m e) e₁ g)
         by (stops w) s = s

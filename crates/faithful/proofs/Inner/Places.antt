@@ -1,13 +1,11 @@
 -- Where records stand once second level is removed: every group begins at its place, a number is sent to the place of its group, and a
 -- move there is the place of the move here. From the definitions of `removed` and `moveTo` alone; once for all stages.
 use mathlib.Core.Path.{_≡_, refl, sym, ap, _∙_}
-use Prim.Native.Nat.{ℕ, zero, suc, _+_, _≤_, _<_, zero-le}
+use Prim.Native.Nat.{_≤_, _<_, zero-le}
 use native.Mathlib.Omega.{arith}
-use mathlib.Core.Bool.{Bool, true, false, cond}
-use mathlib.Core.List.{List, [], _∷_, _++_, map}
-use lib.ListN.{length, length-append, length-map}
-use lib.Dec.{leb}
+use lib.ListN.{length-append, length-map}
 use borrow.Author.Tests.{leb-true, leb-false, le-leb, lt-leb}
+use Rattle.rules.specs.Words.{ℕ, zero, suc, _+_, Bool, true, false, List, [], _∷_, _++_, map, length, leb}
 use Rattle.rules.specs.Instruction.{Op}
 use Rattle.rules.specs.Numbers.{names, moveTo}
 use Rattle.rules.specs.SecondLevel.{Group, _▹_, members, seconds, renumber, sent, laid}
@@ -103,4 +101,6 @@ module _ (to : ℕ → ℕ) where
   move-renumber gs k = ap (moveTo (length (laid to gs))) (renumber-place gs k) ∙ move-place gs (moveTo (length gs) k) ∙ ap (place gs) twice
     where
       twice : moveTo (length gs) (moveTo (length gs) k) ≡ moveTo (length gs) k
-      twice = in-or-out (length gs) k (λ h. ap (moveTo (length gs)) (move-in (length gs) k h)) (λ h. rw (move-out (length gs) k h) (move-in (length gs) 0 zero-le))
+      twice = in-or-out (length gs) k
+          (λ h. ap (moveTo (length gs)) (move-in (length gs) k h))
+          (λ h. rw (move-out (length gs) k h) (move-in (length gs) 0 zero-le))

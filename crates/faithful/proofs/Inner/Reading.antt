@@ -1,13 +1,11 @@
 -- Reading on from a record: what stands there, what the search for an end or a separator to the right and for a header to the left
 -- has still to read, and that a body is read over by every such search.
 use mathlib.Core.Path.{_≡_, refl, sym, ap, _∙_, subst, fun-ext}
-use Prim.Native.Nat.{ℕ, zero, suc, _+_, _≤_, _<_}
+use Prim.Native.Nat.{_<_}
 use native.Mathlib.Nat.{add-zero}
 use native.Mathlib.Omega.{arith}
-use mathlib.Core.Bool.{Bool, true, false, cond, _&&_}
-use mathlib.Core.Option.{Option, none, some}
-use mathlib.Core.List.{List, [], _∷_, _++_, tail, head?, append-assoc, append-nil}
-use lib.ListN.{length, drop, getD, getElem?}
+use mathlib.Core.List.{tail, head?, append-assoc, append-nil}
+use Rattle.rules.specs.Words.{ℕ, zero, suc, _+_, Bool, true, false, cond, _&&_, Option, none, some, List, [], _∷_, _++_, length, drop, getD, getElem?}
 use Rattle.rules.specs.Instruction.{Act, Sort, conditional, loop, Op, header, separator, end}
 use Rattle.rules.specs.Numbers.{at, given, past}
 use Rattle.rules.specs.Nesting.{alone, bracket}
@@ -15,7 +13,7 @@ use Rattle.rules.specs.WellBuilt.{Body, nothing, single, looping, oneArm, twoAr
 use Rattle.rules.specs.Partners.{Role, opens, parts, ends, other, roleOf, role, endAt, endFrom, separatorAt, separatorFrom, endOf, separatorOf, opening, isHeader, headerUpTo, headerOf}
 use Rattle.rules.proofs.Records.{at-getD}
 use Rattle.rules.proofs.Partners.{backAt, roleAt, back, header-back}
-use Rattle.faithful.proofs.Places.{over, over-append}
+use Rattle.faithful.proofs.Inner.Places.{over, over-append}
 
 -- ## What stands behind the first k records
 
@@ -87,7 +85,8 @@ body-over R (oneArm {v = v} {a = a} {body = xs} {rest = r} x y) s k os =
     rw (append-assoc xs (end conditional ∷ r) os, over-append xs (end conditional ∷ r))
     (R .enters s k conditional v a _ ∙ body-over R x _ (suc k) _ ∙ R .leaves s k _ conditional _ ∙ body-over R y s _ os)
 body-over R (twoArms {v = v} {a = a} {first = xs} {second = ys} {rest = r} x y z) s k os =
-    rw (append-assoc xs (separator ∷ (ys ++ (end conditional ∷ r))) os, append-assoc ys (end conditional ∷ r) os, over-append xs (separator ∷ (ys ++ (end conditional ∷ r))), over-append ys (end conditional ∷ r))
+    let zs = end conditional ∷ r in
+    rw (append-assoc xs (separator ∷ (ys ++ zs)) os, append-assoc ys zs os, over-append xs (separator ∷ (ys ++ zs)), over-append ys zs)
     (R .enters s k conditional v a _ ∙ body-over R x _ (suc k) _ ∙ R .turns s k _ _ ∙ body-over R y _ _ _ ∙ R .closes s k _ _ ∙ body-over R z s _ os)
 
 -- ## To the right: what the searches for an end and for a separator share
@@ -200,13 +199,15 @@ seeker at S b = record {
     turn conditional d k os = S .parts-inside d k _
     turn loop d k os = S .other-passes d k _
 
-pub seek-body : {at : Role → ℕ → ℕ → (ℕ → ℕ) → ℕ} → Seeks at → (b : Sort) {xs : List Op} → Body xs → (d k : ℕ) (os : List Op) → seek at b d k (xs ++ os) ≡ seek at b d (over xs k) os
+pub seek-body : {at : Role → ℕ → ℕ → (ℕ → ℕ) → ℕ} → Seeks at → (b : Sort) {xs : List Op} → Body xs → (d k : ℕ) (os : List Op)
+    → seek at b d k (xs ++ os) ≡ seek at b d (over xs k) os
 unfolding seeker
 seek-body {at} S b y d k os = body-over (seeker at S b) y d k os
 
 -- ## To the left: s d is the header of the item that is open d items out
 
-pub back-one : {L : List Op} {k : ℕ} (b : Sort) {o : Op} {os : List Op} → From L k (o ∷ os) → (d : ℕ) → back b L (suc k) d ≡ backAt (role b o) d (suc k) (λ e. back b L k e)
+pub back-one : {L : List Op} {k : ℕ} (b : Sort) {o : Op} {os : List Op} → From L k (o ∷ os) → (d : ℕ)
+    → back b L (suc k) d ≡ backAt (role b o) d (suc k) (λ e. back b L k e)
 unfolding back roleAt
 back-one {L} {k} b t d = ap (λ (y : Option Op). backAt (roleAt b y) d (suc k) (λ e. back b L k e)) (from-at t)
 
@@ -233,7 +234,8 @@ header-found b L i j e = up i e
     Found : Type 0
     Found = (o : Op) × (at L (suc j) ≡ some o) × (role b o ≡ opens)
 
-    by : (n : ℕ) (x : Option Op) → at L (suc n) ≡ x → (y : Bool) → cond (isHeader b x && y) (suc n) (headerUpTo b L i n) ≡ suc j → (headerUpTo b L i n ≡ suc j → Found) → Found
+    by : (n : ℕ) (x : Option Op) → at L (suc n) ≡ x → (y : Bool) → cond (isHeader b x && y) (suc n) (headerUpTo b L i n) ≡ suc j
+        → (headerUpTo b L i n ≡ suc j → Found) → Found
     by n none a y e f = f e
     by n (some o) a y e f = is (role b o) refl y e
       where
