@@ -1,2 +1,4 @@
 pub mod Stacks
 pub mod States
+pub mod Places
+pub mod Deeds
