@@ -2,3 +2,5 @@ pub mod Stacks
 pub mod States
 pub mod Places
 pub mod Deeds
+pub mod Asking
+pub mod Moving
