@@ -4,3 +4,4 @@ pub mod Places
 pub mod Deeds
 pub mod Asking
 pub mod Moving
+pub mod Turning

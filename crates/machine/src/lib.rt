@@ -5,3 +5,4 @@ mod place;
 mod run;
 mod stack;
 mod state;
+mod turn;
