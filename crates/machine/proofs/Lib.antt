@@ -5,3 +5,4 @@ pub mod Deeds
 pub mod Asking
 pub mod Moving
 pub mod Turning
+pub mod Running
