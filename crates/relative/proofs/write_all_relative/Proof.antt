@@ -1,0 +1,47 @@
+use mathlib.Core.List.{[], _∷_}
+use Prim.Native.Nat.{_+_, _-_, _≤_}
+use native.Mathlib.Omega.{arith}
+use borrow.Author.Needs.{needs}
+use lib.ListN.{length}
+use Rattle.rules.specs.Relative.{relativeAt, toRelative}
+use Rattle.records.specs.Reading.{recAt}
+use Rattle.records.proofs.Writing.{Written, start, room-for, turn, finish, singles, each-records}
+use Rattle.relative.proofs.write_all_relative.Statement.{statement}
+use Rattle.relative.proofs.write_all_relative.Tie as tie
+
+abbrev Inv-loop : tie.InvT-loop
+Inv-loop s out₀ n at₀ i₀ out at i = Written (λ i. relativeAt i (recAt s i) ∷ []) n out₀ out at i
+
+abbrev μ-loop : tie.MeasureT-loop
+μ-loop s out₀ n at₀ i₀ out at i = n - i
+
+room : (c : tie.In-loop Inv-loop μ-loop) → let l = c .before .loop in l .at + 8 ≤ length (l .out)
+room c = room-for (c .before .loop .inv) (rw (singles (λ i. relativeAt i (recAt (c .before .before .before .before .args .s .now) i))) (search needs)) (c .loop-test .taken)
+
+loop-again : tie.Need-loop-again Inv-loop μ-loop
+loop-again c =
+    let h = c .before .before .before .before in
+    turn (h .before .loop .inv) (h .loop-test .taken) (c .before .before .write-relative .ensures) (search needs)
+
+returns : tie.Need-returns Inv-loop μ-loop
+unfolding toRelative
+returns c = rw (each-records _ relativeAt) (finish (c .before .loop .inv) (c .loop-test .left))
+
+pub write-all-relative-spec : {M : Type 1} → statement M
+write-all-relative-spec =
+    tie.close
+    (tie.spec
+    Inv-loop
+    μ-loop
+    (λ c. start _ _ _)
+    (λ c. omega arith)
+    (λ c. omega (arith, room c))
+    (λ c. omega (arith, room c))
+    (λ c. search needs)
+    (λ c κs. omega (arith, room (c .before)))
+    (λ c. omega (arith, room (c .before .before .before .before)))
+    (λ c. omega arith)
+    (λ c. omega arith)
+    loop-again
+    (λ c. c .before .loop .inv .same)
+    returns)
