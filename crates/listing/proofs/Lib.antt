@@ -1,0 +1,4 @@
+pub mod Decimal
+pub mod Printing
+pub mod Instructions
+pub mod Lines
