@@ -1,4 +1,5 @@
 pub mod Reading
 pub mod Rows
 pub mod Faults
+pub mod Once
 pub mod Writing

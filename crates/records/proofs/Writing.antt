@@ -3,6 +3,7 @@
 --     one, more    one record, where it has its room; a writer's records behind those written before
 --     Written      the invariant of a loop that writes the groups of records 1 to n, each into the rest: after i of them
 --     start, room-for, turn, finish     at the start; the next group has its room; one group more; at the end
+--     filled-by    what a call that succeeds leaves in its output
 --     singles      groups of one record each
 --     copied, rec-getD, rec-drop, each-records     the records that a loop reads by their numbers
 use mathlib.Core.Path.{_≡_, refl, sym, ap, _∙_}
@@ -14,6 +15,9 @@ use lib.ListN.{length, take, drop, getD, length-append, length-drop, drop-of-len
 use lib.Seq.{take-at, drop-at, take-all, drop-drop, drop-cons}
 use borrow.Rule.Slice.PartMut.{putMid}
 use borrow.Author.Tests.{le-leb}
+use Rattle.rules.specs.declared.Verdict.{Verdict}
+use Rattle.rules.specs.declared.Verdict.the-variants.{Accepted}
+use Rattle.rules.specs.Answers.{filled}
 use Rattle.rules.specs.Record.{Rec, rec, bytesOf, count, records}
 use Rattle.rules.specs.Numbers.{each}
 use Rattle.rules.proofs.Records.{bytes-append, bytes-length, records-length, records-getD, records-at}
@@ -74,6 +78,12 @@ module _ {f : ℕ → List Rec} {n : ℕ} {o w : List ℕ} {at i : ℕ} (v : Wri
 
   pub finish : n ≤ i → Wrote (groups f n) o w at
   finish le = let e : i ≡ n = omega (arith, v .done) in rw e at (v .wrote)
+
+pub filled-by : {v : Verdict} {n : ℕ} {rs : List Rec} {o w : List ℕ} {k : ℕ} → v ≡ Accepted n → n ≡ length rs → Wrote rs o w k → w ≡ filled v rs o
+unfolding filled
+filled-by {v} {n} {rs} {o} {w} {k} e l u =
+    let h : k ≡ 8 * n = omega (arith, u .count, bytes-length rs) in
+    rw e (rw h at (u .holds))
 
 pub singles : (g : ℕ → Rec) (n : ℕ) → length (groups (λ i. g i ∷ []) n) ≡ n
 unfolding groups

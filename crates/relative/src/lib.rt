@@ -1,14 +1,19 @@
 // Relative jumps (2.2): a base whose jumps are absolute to one whose jumps are relative, and back.
+use records::check::check_base;
+use records::check::check_relative;
 use records::kind_at;
 use records::put_record;
 use records::x_at;
 use records::y_at;
+use rules::Refusal;
+use rules::Verdict;
 ghost use mathlib.Core.Path.{_≡_};
 ghost use mathlib.Core.List.{[], _∷_};
 ghost use Prim.Native.Nat.{_*_, _≤_};
 ghost use lib.ListN.{length};
 ghost use Rattle.rules.specs.Record.{records, count};
 ghost use Rattle.rules.specs.Relative.{relativeAt, toRelative, absoluteAt, toAbsolute, far};
+ghost use Rattle.rules.specs.Answers.{relating, absoluting, Translated};
 ghost use Rattle.records.specs.Reading.{recAt};
 ghost use Rattle.records.specs.Writing.{Wrote};
 
@@ -45,6 +50,23 @@ fn write_all_relative(s: &[u8], out: &mut [u8]) -> usize
         i += 1;
     }
     at
+}
+
+// A base with its jumps made relative. A refusal, 1 to 4 or 8, leaves the output as it was.
+pub fn to_relative(base: &[u8], out: &mut [u8]) -> Verdict
+    ensures { λ r. ⌜ Translated (relating (now (base .entry)) (now (out .entry))) (toRelative (records (now (base .entry)))) (now (out .entry)) r (now (out .exit)) ⌝ }
+{
+    let checked = check_base(base);
+    match checked {
+        Verdict::Refused(refusal) => Verdict::Refused(refusal),
+        Verdict::Accepted(n) => {
+            if out.len() < 8 * n {
+                return Verdict::Refused(Refusal::Room);
+            }
+            write_all_relative(base, out);
+            Verdict::Accepted(n)
+        }
+    }
 }
 
 // x of record number i once its jump, if it is one, is absolute: forward k becomes ##(k+i); backward k becomes ##(i-k) if k < i,
@@ -90,6 +112,7 @@ fn write_absolute(s: &[u8], i: usize, out: &mut [u8]) -> usize
     }
 }
 
+// All of them, each into the unwritten rest of the output.
 fn write_all_absolute(s: &[u8], out: &mut [u8]) -> usize
     requires { ⌜ (far (records (now s)) ≡ 0) × (8 * count (now s) ≤ length (now out)) ⌝ }
     ensures { λ r. ⌜ Wrote (toAbsolute (records (now (s .entry)))) (now (out .entry)) (now (out .exit)) r ⌝ }
@@ -102,4 +125,25 @@ fn write_all_absolute(s: &[u8], out: &mut [u8]) -> usize
         i += 1;
     }
     at
+}
+
+// A relative base with its jumps made absolute. A refusal, 1 to 4, 11 or 8, leaves the output as it was.
+pub fn to_absolute(relative: &[u8], out: &mut [u8]) -> Verdict
+    ensures { λ r. ⌜ Translated (absoluting (now (relative .entry)) (now (out .entry))) (toAbsolute (records (now (relative .entry)))) (now (out .entry)) r (now (out .exit)) ⌝ }
+{
+    let checked = check_relative(relative);
+    match checked {
+        Verdict::Refused(refusal) => Verdict::Refused(refusal),
+        Verdict::Accepted(n) => {
+            let place = first_far(relative);
+            if place != 0 {
+                return Verdict::Refused(Refusal::Far(place));
+            }
+            if out.len() < 8 * n {
+                return Verdict::Refused(Refusal::Room);
+            }
+            write_all_absolute(relative, out);
+            Verdict::Accepted(n)
+        }
+    }
 }

@@ -6,4 +6,5 @@ pub mod SecondLevel
 pub mod Length
 pub mod Fits
 pub mod Runs
+pub mod Refusals
 pub mod Table

@@ -21,10 +21,12 @@ loop-holds c = (omega arith, refl)
 returns : tie.Need-returns Inv-loop μ-loop
 returns c =
     let l = c .before .before in
-    sym (l .before .loop .inv .1 ∙ far-here _ _ (l .loop-test .taken) (rw (c .before .absolute-x .ensures) at (c .if1 .taken)))
+    sym (l .before .loop .inv .1 ∙ far-here (l .before .before .before .args .s .now) (l .before .loop .i) (l .loop-test .taken) (omega arith))
 
 loop-again : tie.Need-loop-again Inv-loop μ-loop
-loop-again c = let l = c .before .before in (omega arith, l .before .loop .inv .1 ∙ far-on _ _ (l .loop-test .taken) (rw (c .before .absolute-x .ensures) at (c .if1 .left)))
+loop-again c =
+    let l = c .before .before in
+    (omega arith, l .before .loop .inv .1 ∙ far-on (l .before .before .before .args .s .now) (l .before .loop .i) (l .loop-test .taken) (omega arith))
 
 pub first-far-spec : {M : Type 1} → statement M
 first-far-spec =

@@ -1,3 +1,4 @@
+use native.Mathlib.Omega.{arith}
 use borrow.Author.Needs.{needs}
 use Rattle.records.proofs.Writing.{one}
 use Rattle.relative.proofs.Jumps.{relative-stays, relative-stop, relative-forward, relative-backward}
@@ -22,14 +23,14 @@ returns-3 : tie.Need-returns-3
 returns-3 c =
     let l = c .before .before .before .before in
     let x = l .before .before .before in
-    one (relative-forward _ _ (x .before .kind-at .ensures) (x .x-at .ensures) (l .before .before .if1 .left) (l .before .if2 .left) (l .if3 .taken))
+    one (relative-forward _ _ (x .before .kind-at .ensures) (x .x-at .ensures) (l .before .before .if1 .left) (l .before .if2 .left) (omega arith))
     (c .before .before .put-record3 .ensures) (search needs)
 
 returns-4 : tie.Need-returns-4
 returns-4 c =
     let l = c .before .before .before .before in
     let x = l .before .before .before in
-    one (relative-backward _ _ (x .before .kind-at .ensures) (x .x-at .ensures) (l .before .before .if1 .left) (l .before .if2 .left) (l .if3 .left))
+    one (relative-backward _ _ (x .before .kind-at .ensures) (x .x-at .ensures) (l .before .before .if1 .left) (l .before .if2 .left) (omega arith))
     (c .before .before .put-record4 .ensures) (search needs)
 
 pub write-relative-spec : {M : Type 1} → statement M

@@ -1,0 +1,179 @@
+-- Stage 1, labels: the records stay where they are and do what they did. And where refusal 6 is absent, what it leaves is fit for the
+-- stages that follow.
+use mathlib.Core.Path.{_≡_, refl, sym, ap, _∙_, subst, fun-ext}
+use Prim.Native.Nat.{ℕ, zero, suc, _+_, _≤_}
+use native.Mathlib.Numerals.{add-one}
+use native.Mathlib.Omega.{arith}
+use mathlib.Core.Bool.{Bool, true, false, cond, _&&_}
+use mathlib.Core.Option.{Option, none, some}
+use mathlib.Core.List.{List, [], _∷_}
+use lib.ListN.{length, drop, getD}
+use lib.Dec.{eqb}
+use Rattle.rules.specs.Instruction.{Sort, conditional, loop, Op, act, test, jump, label, goto, goto2, header, separator, end, call, return}
+use Rattle.rules.specs.Numbers.{at, each, moveTo}
+use Rattle.rules.specs.Nesting.{Bracket, bracket}
+use Rattle.rules.specs.Skip.{adding, plainTest, skipFrom, skip}
+use Rattle.rules.specs.Partners.{Role, roleOf, role, endAt, endFrom, separatorAt, separatorFrom, endOf, separatorOf, opening, isHeader, headerUpTo, headerOf}
+use Rattle.rules.specs.Conditionals.{itsSeparator}
+use Rattle.rules.specs.Labels.{target, target2, unlabel, labels}
+use Rattle.rules.specs.Step.{Deed, leap, ask, deed, Mem, Out, does, stepAt, step}
+use Rattle.rules.specs.Run.{startOf}
+use Rattle.rules.proofs.Records.{All, at-getD, at-none, at-zero}
+use Rattle.rules.proofs.SecondLevel.{each-getD}
+use Rattle.rules.proofs.Length.{labels-length}
+use Rattle.rules.proofs.Computes.{computes}
+use Rattle.faithful.proofs.Places.{in-or-out}
+use Rattle.faithful.proofs.Simulation.{cost, costOf, costAt, Sim, stay, first}
+use Rattle.faithful.proofs.Stage.{rank, Calm, Good, Numbered, Staged}
+
+module _ (L : List Op) where
+  -- What is alike of labels, gotos and jumps is alike of a record and what it becomes.
+  unlabel-alike {ℓ} : {A : Type ℓ} (h : Op → A) → ((x s : ℕ) → h (jump x) ≡ h (label s)) → ((x s : ℕ) → h (jump x) ≡ h (goto s)) → ((x s t : ℕ) → h (jump x) ≡ h (goto2 s t))
+      → (i : ℕ) (o : Op) → h (unlabel L i o) ≡ h o
+  unfolding unlabel
+  unlabel-alike h e f g i (act a) = refl
+  unlabel-alike h e f g i (test v a) = refl
+  unlabel-alike h e f g i (jump k) = refl
+  unlabel-alike h e f g i (label s) = e _ s
+  unlabel-alike h e f g i (goto s) = f _ s
+  unlabel-alike h e f g i (goto2 s t) = g _ s t
+  unlabel-alike h e f g i (header b v a) = refl
+  unlabel-alike h e f g i separator = refl
+  unlabel-alike h e f g i (end b) = refl
+  unlabel-alike h e f g i (call k) = refl
+  unlabel-alike h e f g i return = refl
+
+  role-alike : (b : Sort) (i : ℕ) (o : Op) → role b (unlabel L i o) ≡ role b o
+  unfolding role bracket
+  role-alike b i o = ap (roleOf b) (unlabel-alike bracket (λ x s. refl) (λ x s. refl) (λ x s t. refl) i o)
+
+  at-alike : {A : Type 0} (F G : Option Op → A) (i : ℕ) → F none ≡ G none → ((o : Op) → F (some (unlabel L i o)) ≡ G (some o)) → F (at (labels L) i) ≡ G (at L i)
+  unfolding labels
+  at-alike F G zero e h = ap F (at-zero (labels L)) ∙ e ∙ ap G (sym (at-zero L))
+  at-alike F G (suc j) e h = in-or-out (length L) (suc j)
+      (λ l. ap F (at-getD (labels L) j (jump 0) (omega (arith, labels-length L)) ∙ ap some (each-getD (unlabel L) 1 j L (jump 0) (jump 0) l ∙ ap (λ (i : ℕ). unlabel L i (getD L j (jump 0))) (add-one j))) ∙ h (getD L j (jump 0)) ∙ ap G (sym (at-getD L j (jump 0) l)))
+      (λ l. ap F (at-none (labels L) (suc j) (omega (arith, labels-length L))) ∙ e ∙ ap G (sym (at-none L (suc j) l)))
+
+  -- ## Partners stay
+
+  end-alike : (b : Sort) (d k p : ℕ) (os : List Op) → endFrom b d k (each (unlabel L) p os) ≡ endFrom b d k os
+  unfolding endFrom each
+  end-alike b d k p [] = refl
+  end-alike b d k p (o ∷ os) = rw (role-alike b p o) (ap (endAt (role b o) d k) (fun-ext (λ e. end-alike b e (suc k) (suc p) os)))
+
+  separator-alike : (d k p : ℕ) (os : List Op) → separatorFrom d k (each (unlabel L) p os) ≡ separatorFrom d k os
+  unfolding separatorFrom each
+  separator-alike d k p [] = refl
+  separator-alike d k p (o ∷ os) = rw (role-alike conditional p o) (ap (separatorAt (role conditional o) d k) (fun-ext (λ e. separator-alike e (suc k) (suc p) os)))
+
+  drop-each : (i p : ℕ) (os : List Op) → drop i (each (unlabel L) p os) ≡ each (unlabel L) (i + p) (drop i os)
+  unfolding each
+  drop-each zero p os = ap (λ (q : ℕ). each (unlabel L) q os) (omega arith)
+  drop-each (suc i) p [] = refl
+  drop-each (suc i) p (o ∷ os) = drop-each i (suc p) os ∙ ap (λ (q : ℕ). each (unlabel L) q (drop i os)) (omega arith)
+
+  end-of-alike : (b : Sort) (i : ℕ) → endOf b (labels L) i ≡ endOf b L i
+  unfolding endOf labels
+  end-of-alike b i = ap (endFrom b 0 (suc i)) (drop-each i 1 L) ∙ end-alike b 0 (suc i) (i + 1) (drop i L)
+
+  separator-of-alike : (i : ℕ) → separatorOf (labels L) i ≡ separatorOf L i
+  unfolding separatorOf labels
+  separator-of-alike zero = refl
+  separator-of-alike (suc i) = ap (separatorFrom 0 (suc (suc i))) (drop-each (suc i) 1 L) ∙ separator-alike 0 (suc (suc i)) (suc i + 1) (drop (suc i) L)
+
+  header-of-alike : (b : Sort) (i : ℕ) → headerOf b (labels L) i ≡ headerOf b L i
+  unfolding headerOf headerUpTo isHeader
+  header-of-alike b i = up i
+    where
+      up : (n : ℕ) → headerUpTo b (labels L) i n ≡ headerUpTo b L i n
+      up zero = refl
+      up (suc n) = rw (at-alike (isHeader b) (isHeader b) (suc n) refl (λ o. ap opening (role-alike b (suc n) o)), end-of-alike b (suc n), up n)
+
+  -- ## Deeds stay
+
+  deed-alike : (i : ℕ) (o : Op) → deed (labels L) i (unlabel L i o) ≡ deed L i o
+  unfolding deed unlabel itsSeparator
+  deed-alike i (act a) = refl
+  deed-alike i (test v a) = refl
+  deed-alike i (jump k) = refl
+  deed-alike i (label s) = refl
+  deed-alike i (goto s) = refl
+  deed-alike i (goto2 s t) = refl
+  deed-alike i (header conditional v a) = rw (separator-of-alike i)
+  deed-alike i (header loop v a) = rw (end-of-alike loop i)
+  deed-alike i separator = rw (end-of-alike conditional i)
+  deed-alike i (end conditional) = rw (header-of-alike conditional i, separator-of-alike (headerOf conditional L i))
+  deed-alike i (end loop) = rw (header-of-alike loop i)
+  deed-alike i (call k) = refl
+  deed-alike i return = refl
+
+  module _ (i : ℕ) (m : Mem) where
+    step-alike : step (labels L) i m ≡ step L i m
+    unfolding step stepAt
+    step-alike = at-alike (λ (x : Option Op). stepAt (labels L) i x m) (λ (x : Option Op). stepAt L i x m) i refl (λ o. rw (labels-length L, deed-alike i o))
+
+    cost-alike : costAt (labels L) i m ≡ costAt L i m
+    unfolding costAt costOf cost
+    cost-alike = at-alike (λ (x : Option Op). costOf (length (labels L)) x m) (λ (x : Option Op). costOf (length L) x m) i refl
+        (λ o. rw (labels-length L) (unlabel-alike (λ x. cost (length L) x m) (λ x s. refl) (λ x s. refl) (λ x s t. refl) i o))
+
+  sim : Sim L (labels L) (λ i. i)
+  sim = record {
+    steps = λ i m j m₁ e. first (step-alike i m ∙ e) (stay refl) (omega (arith, cost-alike i m));
+    halts = λ i m w e. step-alike i m ∙ e;
+  }
+
+  -- ## Without refusal 6, what is left may stand
+
+  low : (i : ℕ) (o : Op) → rank (unlabel L i o) ≤ 3
+  unfolding unlabel
+  low i (act a) = omega arith
+  low i (test v a) = omega arith
+  low i (jump k) = omega arith
+  low i (label s) = omega arith
+  low i (goto s) = omega arith
+  low i (goto2 s t) = omega arith
+  low i (header conditional v a) = omega arith
+  low i (header loop v a) = omega arith
+  low i separator = omega arith
+  low i (end conditional) = omega arith
+  low i (end loop) = omega arith
+  low i (call k) = omega arith
+  low i return = omega arith
+
+  adding-alike : (i : ℕ) (o : Op) → adding (unlabel L i o) ≡ adding o
+  unfolding computes
+  adding-alike = unlabel-alike adding (λ x s. refl) (λ x s. refl) (λ x s t. refl)
+
+  plain-alike : (i : ℕ) (o : Op) → plainTest (unlabel L i o) ≡ plainTest o
+  unfolding computes
+  plain-alike = unlabel-alike plainTest (λ x s. refl) (λ x s. refl) (λ x s t. refl)
+
+  calm-next : (b : Bool) (p : ℕ) (o : Op) (os : List Op) → b && adding o ≡ false → Calm b (each (unlabel L) p (o ∷ os))
+  unfolding each
+  calm-next false p o os e = tt
+  calm-next true p o os e = adding-alike p o ∙ e
+
+  calm-end : (b : Bool) → Calm b []
+  calm-end true = tt
+  calm-end false = tt
+
+  good-from : (p : ℕ) (os : List Op) → skipFrom (suc p) os ≡ 0 → Good 3 (each (unlabel L) (suc p) os)
+  unfolding skipFrom each
+  good-from p [] e = tt
+  good-from p (o ∷ []) e = (low (suc p) o, calm-end (plainTest (unlabel L (suc p) o)), tt)
+  good-from p (o ∷ (x ∷ os)) e = by (plainTest o && adding x) refl e (good-from (suc p) (x ∷ os))
+    where
+      by : (b : Bool) → plainTest o && adding x ≡ b → cond b (suc p) (skipFrom (suc (suc p)) (x ∷ os)) ≡ 0 → (skipFrom (suc (suc p)) (x ∷ os) ≡ 0 → Good 3 (each (unlabel L) (suc (suc p)) (x ∷ os)))
+          → Good 3 (each (unlabel L) (suc p) (o ∷ (x ∷ os)))
+      by true q e k = absurd (omega arith)
+      by false q e k = (low (suc p) o, rw (plain-alike (suc p) o) (calm-next (plainTest o) (suc (suc p)) x os q), k e)
+
+  numbered : (p : ℕ) (os : List Op) → All Numbered os → All Numbered (each (unlabel L) p os)
+  unfolding each
+  numbered p [] h = tt
+  numbered p (o ∷ os) h = (subst (λ (X : Type 0). X) (sym (unlabel-alike Numbered (λ x s. refl) (λ x s. refl) (λ x s t. refl) p o)) (h .0), numbered (suc p) os (h .1))
+
+  pub labels-staged : skip L ≡ 0 → Staged 3 L (labels L) (λ i. i)
+  unfolding skip labels startOf
+  labels-staged e = record { sim = sim; good = good-from 0 L e; starts = ap (λ (n : ℕ). moveTo n 1) (labels-length L); numbers = numbered 1 L }

@@ -1,0 +1,15 @@
+pub mod Places
+pub mod Simulation
+pub mod Reading
+pub mod Chain
+pub mod Stage
+pub mod Calls
+pub mod Loops
+pub mod Conditionals
+pub mod Labels
+pub mod Demand
+pub mod Grammar
+pub mod Partners
+pub mod Audit
+pub mod Accepted
+pub mod Base
