@@ -3,11 +3,11 @@ use mathlib.Core.Path.{_≡_}
 use Prim.Native.Nat.{ℕ}
 use mathlib.Core.List.{List, _++_}
 use borrow.Author.Tests.{eq-eqb, ne-eqb}
-use Rattle.rules.specs.Record.{rec}
 use Rattle.rules.specs.declared.Refusal.{Refusal}
 use Rattle.rules.specs.Refusals.{Told, told}
+use Rattle.rules.specs.Record.{rec}
 use Rattle.rules.specs.Instruction.{actOf}
-use Rattle.listing.specs.Text.{ascii, named, action, sign, instruction, refused}
+use Rattle.listing.specs.Text.{ascii, named, action, sign, instruction, refusedAt, refused}
 
 module _ (x y : ℕ) where
   pub action-push : x ≡ 1001 → action (actOf x y) ≡ named "push(" y ++ ascii ")"
@@ -43,6 +43,6 @@ module _ (x y : ℕ) where
     unfolding instruction sign
     instruction-bare a b c = rw (ne-eqb k 4 c, ne-eqb k 2 a, ne-eqb k 3 b)
 
-pub refused-is : (r : Refusal) {n p : ℕ} → n ≡ told r .number → p ≡ told r .place → refused r ≡ named "refused " n ++ named " " p ++ ascii "\n"
+pub refused-is : (r : Refusal) {n p : ℕ} → n ≡ told r .number → p ≡ told r .place → refusedAt n p ≡ refused r
 unfolding refused
 refused-is r n p = rw (n, p)

@@ -2,3 +2,4 @@ pub mod Decimal
 pub mod Printing
 pub mod Instructions
 pub mod Lines
+pub mod Lengths

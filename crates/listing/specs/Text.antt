@@ -61,5 +61,8 @@ unfoldable pub textOf : List ℕ → List ℕ
 textOf s = listing (count s) (baseRecords s)
 
 -- A refusal prints only `refused`, number, place.
+unfoldable pub refusedAt : ℕ → ℕ → List ℕ
+refusedAt number place = named "refused " number ++ named " " place ++ ascii "\n"
+
 unfoldable pub refused : Refusal → List ℕ
-refused r = named "refused " (told r .number) ++ named " " (told r .place) ++ ascii "\n"
+refused r = refusedAt (told r .number) (told r .place)

@@ -3,15 +3,16 @@ use records::kind_at;
 use records::x_at;
 use records::y_at;
 use rules::Refusal;
+use rules::Verdict;
 ghost use mathlib.Core.Path.{_≡_};
-ghost use mathlib.Core.List.{_++_};
+ghost use mathlib.Core.List.{[], _∷_, _++_};
 ghost use Prim.Native.Nat.{_≤_};
 ghost use lib.ListN.{length};
 ghost use Rattle.rules.specs.Record.{rec, records};
 ghost use Rattle.rules.specs.Instruction.{actOf};
-ghost use Rattle.rules.specs.Refusals.{told};
-ghost use Rattle.listing.specs.Text.{ascii, decimal, action, instruction, line, lines, listing, refused};
-ghost use Rattle.listing.specs.Answers.{Printed, Line};
+ghost use Rattle.rules.specs.Refusals.{told, verdict};
+ghost use Rattle.listing.specs.Text.{ascii, decimal, action, instruction, line, lines, listing, refused, refusedAt};
+ghost use Rattle.listing.specs.Answers.{Printed, roomFor, Listed, Line};
 
 // A word at the start of the part lent, as every writer here prints its own text: it answers how many bytes.
 fn put_word(word: &[u8], text: &mut [u8]) -> usize
@@ -115,7 +116,13 @@ fn put_lines(base: &[u8], text: &mut [u8]) -> usize
     let mut i = 0;
     while i < n {
         i += 1;
-        at += put_line(i, kind_at(base, i), x_at(base, i), y_at(base, i), &mut text[at..]);
+        at += put_line(
+            i,
+            kind_at(base, i),
+            x_at(base, i),
+            y_at(base, i),
+            &mut text[at..],
+        );
     }
     at
 }
@@ -171,14 +178,39 @@ pub fn place_of(refusal: Refusal) -> usize
 }
 
 // `refused`, number, place.
-fn put_refused(refusal: Refusal, text: &mut [u8]) -> usize
-    requires { ⌜ length (refused refusal) ≤ length (now text) ⌝ }
-    ensures { λ r. ⌜ Printed (refused refusal) (now (text .entry)) (now (text .exit)) r ⌝ }
+fn put_refused(number: usize, place: usize, text: &mut [u8]) -> usize
+    requires { ⌜ length (refusedAt number place) ≤ length (now text) ⌝ }
+    ensures { λ r. ⌜ Printed (refusedAt number place) (now (text .entry)) (now (text .exit)) r ⌝ }
 {
-    let number = number_of(refusal);
-    let place = place_of(refusal);
     let mut at = put_named(b"refused ", number, text);
     at += put_named(b" ", place, &mut text[at..]);
     at += put_word(b"\n", &mut text[at..]);
     at
+}
+
+// The line of a refusal, and how many bytes it has. A text that is too short is left as it is, with 0.
+pub fn refused_line(refusal: Refusal, text: &mut [u8]) -> usize
+    ensures { λ r. ⌜ Line (refused refusal) (now (text .entry)) r (now (text .exit)) ⌝ }
+{
+    // Two numbers of at most 20 digits each.
+    let mut line = [0u8; 50];
+    let length = put_refused(number_of(refusal), place_of(refusal), &mut line);
+    if text.len() < length {
+        return 0;
+    }
+    put_word(&line[..length], text)
+}
+
+// The text where it has room, by way of an array that has room for every listing, so that a refused call prints nothing.
+fn show(n: usize, base: &[u8], text: &mut [u8]) -> Verdict
+    requires { ⌜ length (listing n (records (now base))) ≤ 73744 ⌝ }
+    ensures { λ r. ⌜ Listed (verdict (roomFor (listing n (records (now (base .entry)))) (now (text .entry)) ∷ []) (length (listing n (records (now (base .entry)))))) (listing n (records (now (base .entry)))) (now (text .entry)) r (now (text .exit)) ⌝ }
+{
+    let mut page = [0u8; 73744];
+    let length = put_listing(n, base, &mut page);
+    if text.len() < length {
+        return Verdict::Refused(Refusal::Room);
+    }
+    put_word(&page[..length], text);
+    Verdict::Accepted(length)
 }
