@@ -4,16 +4,17 @@ use mathlib.Core.Path.{_≡_, refl, sym, ap, _∙_, subst}
 use Prim.Native.Nat.{ℕ, zero, suc, _+_, _*_, _≤_, _<_, zero-le}
 use native.Mathlib.Omega.{arith}
 use native.Mathlib.Nat.{le-refl}
-use mathlib.Core.Bool.{Bool, true, false, cond}
+use mathlib.Core.Bool.{Bool, true, false, cond, _||_}
 use mathlib.Core.Option.{Option, none, some}
-use mathlib.Core.List.{List, [], _∷_, _++_}
-use borrow.Author.Tests.{leb-true, eqb-true, eqb-false, ne-eqb}
-use lib.ListN.{length, take, drop}
+use mathlib.Core.List.{List, [], _∷_, _++_, map}
+use borrow.Author.Tests.{leb-true, eq-eqb, ne-eqb}
+use lib.ListN.{length, take, drop, length-map}
 use lib.Seq.{take-at}
 use lib.Dec.{eqb, leb}
 use Rattle.rules.specs.declared.Notation.the-variants.{Base}
 use Rattle.rules.specs.declared.Refusal.{Refusal}
 use Rattle.rules.specs.declared.Refusal.the-variants.{Room, Reply as BadReply}
+use Rattle.rules.specs.declared.Verdict.{Verdict}
 use Rattle.rules.specs.declared.Verdict.the-variants.{Accepted}
 use Rattle.rules.specs.declared.Status.{Status}
 use Rattle.rules.specs.declared.Status.the-variants.{Ended, NoReply, LogFull, StackFull, Spent}
@@ -21,8 +22,8 @@ use Rattle.rules.specs.declared.Outcome.{Outcome}
 use Rattle.rules.specs.declared.Outcome.the-variants.{Stopped, TurnedAway}
 use Rattle.rules.specs.Numbers.{at, names, moveTo}
 use Rattle.rules.specs.Record.{count, bytesOf}
-use Rattle.rules.specs.Instruction.{Act, outside, push, pop, compare, Op, jump, ops, file}
-use Rattle.rules.specs.Refusals.{when, whenAt, orElse, first, verdict}
+use Rattle.rules.specs.Instruction.{Act, outside, push, pop, compare, Op, jump, encode, ops, file}
+use Rattle.rules.specs.Refusals.{when, whenAt, orElse, first, verdictOf, verdict}
 use Rattle.rules.specs.Checks.{recordChecks}
 use Rattle.rules.specs.Skip.{skip, convertedLength}
 use Rattle.rules.specs.Convert.{convert}
@@ -30,12 +31,15 @@ use Rattle.rules.specs.Stack.{top}
 use Rattle.rules.specs.Step.{Deed, ask, leap, enter, leave, Mem, noReplyLeft, logIsFull, perform, Reply, did, stops, Out, go, halt, agree, branch, leaving, does, stepAt, step}
 use Rattle.rules.specs.Stack.{full}
 use Rattle.rules.specs.Run.{after, andThen, why, Run, stopped, oneMore, onward, run, startOf, freshMem, runs}
-use Rattle.rules.specs.Answers.{routineChecks, checkRecords, checkRoutine, filled, baseRecords, baseCount, converting, Converted, Call, ran, turnedAway, unless, noState, badReply, running, runRoutine, runBase}
+use Rattle.rules.specs.Answers.{routineChecks, short, checkRecords, checkRoutine, filled, baseRecords, baseCount, converting, Converted, Call, ran, turnedAway, unless, noState, badReply, running, runRoutine, runBase}
 use Rattle.rules.proofs.Records.{at-getD, bytes-length, ops-length}
+use Rattle.rules.proofs.Refusals.{or-none, first-append, accepted-none, accepted-count}
 use Rattle.rules.proofs.Runs.{run-steps, run-more}
-use Rattle.faithful.specs.Promises.{Follows, RunFollows}
+use Rattle.faithful.specs.Promises.{Follows, RunFollows, Based}
 use Rattle.faithful.specs.Audit.{Alike, Followed, Audited, Audit}
 use Rattle.faithful.proofs.Demand.{demand3, demand3-run}
+use Rattle.faithful.proofs.Accepted.{admitted}
+use Rattle.faithful.proofs.Base.{base-length, base-accepted}
 
 -- ## A step stops with 2, 3 or 4 alone, but at position 0, and moves within the records
 
@@ -154,6 +158,10 @@ stands L (suc k) m z h e = by (step L (suc k) m) refl e
         let f : false ≡ true = ap stopper (sym y) ∙ g in
         let u : _≡_ {A = ℕ} 0 1 = cc in omega arith
 
+at-end : (L : List Op) (i : ℕ) (m : Mem) → i ≡ 0 → why (step L i m) ≡ some Ended
+unfolding why step stepAt at
+at-end L i m e = rw e
+
 -- ## A run whose budget is spent
 
 pub record Whole (L : List Op) (b i : ℕ) (m : Mem) : Type 0 where
@@ -162,15 +170,16 @@ pub record Whole (L : List Op) (b i : ℕ) (m : Mem) : Type 0 where
   pub not-ended : ¬ (run L b i m .position ≡ 0)
 
 never-spent : (L : List Op) (i : ℕ) (m : Mem) → step L i m ≡ halt Spent → ⊥
-never-spent L i m e = by (at L i) refl
+unfolding step stepAt
+never-spent L i m e = by (at L i) refl e
   where
-    by : (o : Option Op) → at L i ≡ o → ⊥
-    by none q = ?
-    by (some o) q = let g : false ≡ true = step-halts L i m Spent o q e in let u : _≡_ {A = ℕ} 0 1 = cc in omega arith
+    by : (o : Option Op) → at L i ≡ o → stepAt L i o m ≡ halt Spent → ⊥
+    by none q e = let u : _≡_ {A = ℕ} 0 1 = cc in omega arith
+    by (some o) q e = let g : false ≡ true = does-halts (length L) _ m Spent e in let u : _≡_ {A = ℕ} 0 1 = cc in omega arith
 
 run-spent : (L : List Op) (b i : ℕ) (m : Mem) → run L b i m .status ≡ Spent → Whole L b i m
 unfolding run after andThen onward
-run-spent L zero i m e = record { steps = refl; stands-at = refl; not-ended = λ z. ? }
+run-spent L zero i m e = record { steps = refl; stands-at = refl; not-ended = λ z. let y = sym e ∙ ap (λ (b : Bool). cond b Ended Spent) (eq-eqb i 0 z) in let u : _≡_ {A = ℕ} 0 1 = cc in omega arith }
 run-spent L (suc b) i m e = by (step L i m) refl e (run-spent L b)
   where
     by : (o : Out) → step L i m ≡ o → onward i m (λ x y. run L b x y) o .status ≡ Spent → ((j : ℕ) (m₁ : Mem) → run L b j m₁ .status ≡ Spent → Whole L b j m₁) → Whole L (suc b) i m
@@ -192,8 +201,180 @@ run-to L (suc c) i m j m₁ e h = by (step L i m) e (run-to L c)
 
 -- ## What the two runs answer
 
+last : (checks : List (Option Refusal)) (c : Option Refusal) → first checks ≡ none → first (checks ++ (c ∷ [])) ≡ c
+unfolding orElse first
+last checks c e = first-append checks (c ∷ []) ∙ rw e (or-none c)
+
 -- no refusal among a call's own checks: it is turned away by a bad reply, or runs
 running-is : (checks : List (Option Refusal)) (s replies log : List ℕ) (budget : ℕ) → first checks ≡ none
     → running checks s replies log budget ≡ unless (whenAt BadReply (badReply replies)) noState log (ran (runs (ops s) replies log budget))
 unfolding running
-running-is checks s replies log budget e = ap (λ (c : Option Refusal). unless c noState log (ran (runs (ops s) replies log budget))) ?
+running-is checks s replies log budget e = ap (λ (c : Option Refusal). unless c noState log (ran (runs (ops s) replies log budget))) (last checks _ e)
+
+-- a bad reply turns both away, whatever they would have done; without one neither is turned away
+tells : ℕ → List ℕ → Run → Call
+tells bad log r = unless (whenAt BadReply bad) noState log (ran r)
+
+both-turned : (bad : ℕ) (log : List ℕ) (x y : Run) (r : Refusal) → tells bad log x .answer .outcome ≡ TurnedAway r → tells bad log y ≡ tells bad log x
+unfolding tells unless whenAt ran
+both-turned zero log x y r e = absurd (let u : _≡_ {A = ℕ} 0 1 = cc in omega arith)
+both-turned (suc p) log x y r e = refl
+
+no-bad : (bad : ℕ) (log : List ℕ) (x : Run) (w : Status) → tells bad log x .answer .outcome ≡ Stopped w → (bad ≡ 0) × (x .status ≡ w)
+unfolding tells unless whenAt ran turnedAway
+no-bad zero log x w e = (refl, cc)
+no-bad (suc p) log x w e = absurd (let u : _≡_ {A = ℕ} 0 1 = cc in omega arith)
+
+tells-ran : (bad : ℕ) (log : List ℕ) (x : Run) → bad ≡ 0 → tells bad log x ≡ ran x
+unfolding tells unless whenAt
+tells-ran bad log x e = rw e
+
+same-mem : (x y : Run) → x .mem ≡ y .mem → x .status ≡ y .status → Alike (ran x) (ran y)
+unfolding ran
+same-mem x y m w = record {
+  outcome = ap Stopped w;
+  replies = ap (λ (z : Mem). z .used) m;
+  actions = ap (λ (z : Mem). z .logged) m;
+  stack = ap (λ (z : Mem). z .stack) m;
+  log = ap (λ (z : Mem). z .log) m;
+}
+
+-- ## Demand 3 for a run, whatever its status
+
+start-in : (L : List Op) → startOf L ≤ length L
+unfolding startOf
+start-in L = move-in (length L) 1
+
+-- the base's run under a budget, beside the routine's run x
+abbrev Matched : List Op → List ℕ → List ℕ → Run → ℕ → Type 0
+Matched L replies log x budget = (runs (convert L) replies log budget .mem ≡ x .mem) × (runs (convert L) replies log budget .status ≡ x .status)
+
+record Counted (L : List Op) (replies log : List ℕ) (x : Run) : Type 0 where
+  total : ℕ
+  low : x .steps ≤ total
+  high : total ≤ (2 * length L + 1) * x .steps
+  over : ¬ (x .status ≡ Spent) → (larger : ℕ) → total < larger → Matched L replies log x larger
+  spent : x .status ≡ Spent → Matched L replies log x total
+
+module _ (L : List Op) (allowed : skip L ≡ 0) (replies log : List ℕ) where
+  with-budget-left : (b : ℕ) → runs L replies log b .steps < b → ¬ (runs L replies log b .status ≡ Spent) → Counted L replies log (runs L replies log b)
+  with-budget-left b l h =
+      let d = demand3-run L allowed replies log b l in
+      record {
+        total = d .count;
+        low = d .at-least;
+        high = d .at-most;
+        over = λ z larger g. (ap (λ (r : Run). r .mem) (d .same larger g), ap (λ (r : Run). r .status) (d .same larger g));
+        spent = λ z. absurd (h z);
+      }
+
+  -- one that stopped with its last step is the same with one step more to spend
+  that-stopped : (b : ℕ) → ¬ (runs L replies log b .status ≡ Spent) → Counted L replies log (runs L replies log b)
+  unfolding runs
+  that-stopped b h =
+      let e = run-more L b (suc b) (startOf L) (freshMem replies log) (omega arith) h in
+      let l = run-steps L b (startOf L) (freshMem replies log) in
+      subst (Counted L replies log) e (with-budget-left (suc b) (rw e (omega arith)) (rw e h))
+
+  that-went-on : (b : ℕ) → runs L replies log b .status ≡ Spent → Counted L replies log (runs L replies log b)
+  unfolding runs
+  that-went-on b h =
+      let w = run-spent L b (startOf L) (freshMem replies log) h in
+      let r = run L b (startOf L) (freshMem replies log) in
+      let d = demand3 L allowed replies log b (r .position) (r .mem) (w .stands-at) in
+      let here = after-in L b (startOf L) (freshMem replies log) (r .position) (r .mem) (start-in L) (w .stands-at) in
+      let there : ¬ (d .place ≡ 0) = λ z. stands L (r .position) (r .mem) (w .not-ended) here (sym (d .alike) ∙ at-end (convert L) (d .place) (r .mem) z) in
+      let e = run-to (convert L) (d .count) (startOf (convert L)) (freshMem replies log) (d .place) (r .mem) (d .same) there in
+      record {
+        total = d .count;
+        low = rw (w .steps) (d .at-least);
+        high = rw (w .steps) (d .at-most);
+        over = λ z. absurd (z h);
+        spent = λ z. (ap (λ (q : Run). q .mem) e, ap (λ (q : Run). q .status) e ∙ sym h);
+      }
+
+  counted : (b : ℕ) (w : Status) → runs L replies log b .status ≡ w → Counted L replies log (runs L replies log b)
+  counted b Spent e = that-went-on b e
+  counted b Ended e = that-stopped b (λ z. let u : _≡_ {A = ℕ} 0 1 = cc in omega arith)
+  counted b NoReply e = that-stopped b (λ z. let u : _≡_ {A = ℕ} 0 1 = cc in omega arith)
+  counted b LogFull e = that-stopped b (λ z. let u : _≡_ {A = ℕ} 0 1 = cc in omega arith)
+  counted b StackFull e = that-stopped b (λ z. let u : _≡_ {A = ℕ} 0 1 = cc in omega arith)
+
+-- ## The sentence
+
+module _ (s b : List ℕ) (allowed : skip (ops s) ≡ 0)
+    (routine-is : (replies log : List ℕ) (budget : ℕ) → runRoutine s replies log budget ≡ tells (badReply replies) log (runs (ops s) replies log budget))
+    (base-is : (replies log : List ℕ) (budget : ℕ) → runBase b replies log budget ≡ tells (badReply replies) log (runs (convert (ops s)) replies log budget)) where
+  turned-alike : (replies log : List ℕ) (budget other : ℕ) (r : Refusal) → runRoutine s replies log budget .answer .outcome ≡ TurnedAway r → runBase b replies log other ≡ runRoutine s replies log budget
+  turned-alike replies log budget other r e =
+      rw (routine-is replies log budget, base-is replies log other) (both-turned (badReply replies) log _ _ r (rw (routine-is replies log budget) at e))
+
+  followed : (replies log : List ℕ) (budget : ℕ) (w : Status) → runRoutine s replies log budget .answer .outcome ≡ Stopped w → Followed s b replies log budget w
+  unfolding ran
+  followed replies log budget w e =
+      let k = no-bad (badReply replies) log (runs (ops s) replies log budget) w (rw (routine-is replies log budget) at e) in
+      let r = routine-is replies log budget ∙ tells-ran (badReply replies) log (runs (ops s) replies log budget) (k .0) in
+      let o : (q : ℕ) → runBase b replies log q ≡ ran (runs (convert (ops s)) replies log q) = λ q. base-is replies log q ∙ tells-ran (badReply replies) log (runs (convert (ops s)) replies log q) (k .0) in
+      let d = counted (ops s) allowed replies log budget w (k .1) in
+      record {
+        steps = d .total;
+        at-least = rw r (d .low);
+        at-most = rw (r, ← ops-length s) (d .high);
+        stops = λ h larger g. let a = d .over (λ z. h (sym (k .1) ∙ z)) larger g in rw (r, o larger) (same-mem _ _ (a .0) (a .1));
+        goes-on = λ h. let a = d .spent (k .1 ∙ h) in rw (r, o (d .total)) (same-mem _ _ (a .0) (a .1));
+      }
+
+or-left : (c d : Option Refusal) → orElse c d ≡ none → c ≡ none
+unfolding orElse
+or-left none d e = refl
+or-left (some r) d e = e
+
+module _ (s out work out′ work′ : List ℕ) (m : ℕ) (c : Converted s out work (Accepted m) out′ work′) where
+  checked : verdict (routineChecks s ++ (when (short (baseCount s) out || short (baseCount s) work) Room ∷ [])) (baseCount s) ≡ Accepted m
+  unfolding converting
+  checked = sym (c .answers)
+
+  unrefused : first (routineChecks s) ≡ none
+  unrefused = or-left _ _ (sym (first-append (routineChecks s) _) ∙ accepted-none _ _ checked)
+
+  approved : checkRoutine s ≡ Accepted (count s)
+  unfolding checkRoutine verdict verdictOf
+  approved = rw unrefused
+
+  based : Based s
+  based = base-accepted s (count s) approved
+
+  sized : m ≡ convertedLength (ops s)
+  unfolding baseCount
+  sized = accepted-count _ _ checked
+
+  the-base : take (8 * m) out′ ≡ file (convert (ops s))
+  unfolding filled baseRecords file
+  the-base =
+      let b = file (convert (ops s)) in
+      let l : length b ≡ 8 * m = bytes-length (map encode (convert (ops s))) ∙ ap (λ (n : ℕ). 8 * n) (length-map (convert (ops s)) encode ∙ base-length (ops s) ∙ sym sized) in
+      ap (take (8 * m)) (c .output ∙ ap (λ (v : Verdict). filled v (baseRecords s) out) (sym (c .answers))) ∙ take-at b (drop (8 * m) out) (8 * m) l
+
+  routine-runs : (replies log : List ℕ) (budget : ℕ) → runRoutine s replies log budget ≡ tells (badReply replies) log (runs (ops s) replies log budget)
+  unfolding runRoutine tells
+  routine-runs replies log budget = running-is (routineChecks s) s replies log budget unrefused
+
+  base-runs : (replies log : List ℕ) (budget : ℕ) → runBase (file (convert (ops s))) replies log budget ≡ tells (badReply replies) log (runs (convert (ops s)) replies log budget)
+  unfolding runBase tells checkRecords
+  base-runs replies log budget =
+      let b = file (convert (ops s)) in
+      running-is (recordChecks Base b) b replies log budget (accepted-none _ _ (based .checked))
+      ∙ ap (λ (L : List Op). unless (whenAt BadReply (badReply replies)) noState log (ran (runs L replies log budget))) (based .read-back)
+
+  allowed : skip (ops s) ≡ 0
+  allowed = admitted s (count s) approved .allowed
+
+pub audit : Audit
+audit s out work out′ work′ m c =
+    let b = file (convert (ops s)) in
+    subst (λ (x : List ℕ). Audited s x m) (sym (the-base s out work out′ work′ m c))
+    (record {
+      accepted = based s out work out′ work′ m c .checked ∙ ap Accepted (sym (sized s out work out′ work′ m c));
+      refused = turned-alike s b (allowed s out work out′ work′ m c) (routine-runs s out work out′ work′ m c) (base-runs s out work out′ work′ m c);
+      follows = followed s b (allowed s out work out′ work′ m c) (routine-runs s out work out′ work′ m c) (base-runs s out work out′ work′ m c);
+    })

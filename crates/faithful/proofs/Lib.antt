@@ -13,3 +13,4 @@ pub mod Partners
 pub mod Audit
 pub mod Accepted
 pub mod Base
+pub mod Relative

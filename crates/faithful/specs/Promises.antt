@@ -5,9 +5,10 @@ use Prim.Native.Nat.{ℕ, suc, _+_, _*_, _≤_, _<_}
 use mathlib.Core.Bool.{Bool, true, false}
 use mathlib.Core.Option.{Option, none, some}
 use mathlib.Core.List.{List, [], _∷_, _++_}
-use lib.ListN.{length, drop}
-use Rattle.rules.specs.declared.Notation.the-variants.{Base}
+use lib.ListN.{length, drop, getD}
+use Rattle.rules.specs.declared.Notation.the-variants.{Base, Relative}
 use Rattle.rules.specs.declared.Verdict.the-variants.{Accepted}
+use Rattle.rules.specs.Record.{bytesOf, records}
 use Rattle.rules.specs.Instruction.{Act, Sort, conditional, loop, Op, header, separator, end, encode, ops, file}
 use Rattle.rules.specs.Numbers.{at}
 use Rattle.rules.specs.Nesting.{alone, bracket, Item, item, nesting}
@@ -15,6 +16,7 @@ use Rattle.rules.specs.WellBuilt.{Body}
 use Rattle.rules.specs.Partners.{endOf, separatorOf, headerOf}
 use Rattle.rules.specs.Skip.{skip, convertedLength}
 use Rattle.rules.specs.Convert.{convert}
+use Rattle.rules.specs.Relative.{toRelative, toAbsolute, far}
 use Rattle.rules.specs.Step.{Mem, go, step}
 use Rattle.rules.specs.Run.{startOf, freshMem, after, why, Run, runs}
 use Rattle.rules.specs.Answers.{checkRecords, checkRoutine}
@@ -133,3 +135,18 @@ pub record Based (s : List ℕ) : Type 0 where
 -- So a converted routine is never refused by them. (proofs/Base)
 abbrev pub BaseAccepted : Type 0
 BaseAccepted = (s : List ℕ) (n : ℕ) → checkRoutine s ≡ Accepted n → Based s
+
+-- ## Relative jumps
+
+-- The base s of n records becomes a relative base that is accepted, with no number too far, and back it is the same records; hence,
+-- where s is bytes, the same bytes.
+pub record RoundTrip (s : List ℕ) (n : ℕ) : Type 0 where
+  pub checked : checkRecords Relative (bytesOf (toRelative (records s))) ≡ Accepted n
+  pub read-back : records (bytesOf (toRelative (records s))) ≡ toRelative (records s)
+  pub near : far (toRelative (records s)) ≡ 0
+  pub same : toAbsolute (toRelative (records s)) ≡ records s
+  pub same-bytes : ((k : ℕ) → getD s k 0 < 256) → bytesOf (toAbsolute (records (bytesOf (toRelative (records s))))) ≡ s
+
+-- (proofs/Relative)
+abbrev pub RelativeAndBack : Type 0
+RelativeAndBack = (s : List ℕ) (n : ℕ) → checkRecords Base s ≡ Accepted n → RoundTrip s n

@@ -1,3 +1,5 @@
 pub mod Searching
 pub mod Targets
 pub mod Bodies
+pub mod Lengths
+pub mod Verdicts

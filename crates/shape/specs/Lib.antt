@@ -1,2 +1,4 @@
 pub mod Searching
 pub mod Reading
+pub mod Length
+pub mod Checking

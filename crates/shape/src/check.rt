@@ -1,0 +1,43 @@
+// The checks of a routine, 1 to 7, in the paper's order.
+use crate::nesting::nesting_place;
+use crate::skip::base_count;
+use crate::skip::skip_place;
+use records::check::check_records;
+use rules::Notation;
+use rules::Refusal;
+use rules::Verdict;
+ghost use mathlib.Core.Path.{_≡_};
+ghost use Prim.Native.Nat.{_≤_};
+ghost use Rattle.rules.specs.Record.{count};
+ghost use Rattle.rules.specs.Answers.{checkRoutine};
+ghost use Rattle.shape.specs.Checking.{shapeVerdict};
+
+// 5, 6 and 7 of a file of n records.
+fn check_shape(s: &[u8], n: usize) -> Verdict
+    requires { ⌜ count (now s) ≤ 512 ⌝ }
+    ensures { λ r. ⌜ r ≡ shapeVerdict (now (s .entry)) n ⌝ }
+{
+    let misfit = nesting_place(s);
+    if misfit != 0 {
+        return Verdict::Refused(Refusal::Nesting(misfit));
+    }
+    let test = skip_place(s);
+    if test != 0 {
+        return Verdict::Refused(Refusal::Skip(test));
+    }
+    if 4096 < base_count(s) {
+        return Verdict::Refused(Refusal::Growth);
+    }
+    Verdict::Accepted(n)
+}
+
+// The first of refusals 1 to 7 that a routine has, or how many records it holds.
+pub fn check_routine(s: &[u8]) -> Verdict
+    ensures { λ r. ⌜ r ≡ checkRoutine (now (s .entry)) ⌝ }
+{
+    let verdict = check_records(Notation::Routine, s);
+    match verdict {
+        Verdict::Accepted(n) => check_shape(s, n),
+        Verdict::Refused(refusal) => Verdict::Refused(refusal),
+    }
+}
