@@ -3,3 +3,5 @@ pub mod Printing
 pub mod Instructions
 pub mod Lines
 pub mod Lengths
+pub mod Example
+pub mod Converting
