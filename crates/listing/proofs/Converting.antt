@@ -1,13 +1,14 @@
 -- From what a conversion into two arrays of 32,768 bytes answers to what a listing does.
 --     refused-as     a refusal of the conversion is one of the routine, and the listing's own
---     Base, base-of     an accepted conversion: how many records, what is read back from the array, and the text, which has its room
+--     Base, base-of     an accepted conversion: how many records, and the text that is printed from them, which has its room
+--     listed-as     what was printed from them is the listing
 use mathlib.Core.Path.{_≡_, refl, sym, ap, _∙_}
 use Prim.Native.Nat.{ℕ, zero, suc, _*_, _≤_, _<_}
 use native.Mathlib.Omega.{arith}
 use mathlib.Core.Bool.{Bool, true, false, _||_}
 use mathlib.Core.Option.{none}
 use mathlib.Core.List.{List, [], _∷_, _++_, map}
-use lib.ListN.{length, take, drop, length-map}
+use lib.ListN.{length, take, drop, length-append, length-map}
 use lib.Seq.{take-at}
 use borrow.Author.Tests.{le-ltb}
 use Rattle.rules.specs.declared.Refusal.{Refusal}
@@ -20,7 +21,7 @@ use Rattle.rules.specs.Record.{bytesOf, count, records}
 use Rattle.rules.specs.Instruction.{encode, ops}
 use Rattle.rules.specs.Skip.{convertedLength}
 use Rattle.rules.specs.Convert.{convert}
-use Rattle.rules.specs.Answers.{routineChecks, short, checkRoutine, filled, baseRecords, baseCount, converting}
+use Rattle.rules.specs.Answers.{routineChecks, short, checkRoutine, filled, baseRecords, baseCount, converting, Converted}
 use Rattle.rules.proofs.Records.{All, Small, bytes-length, records-back}
 use Rattle.rules.proofs.Instructions.{Fit, accepted-ops}
 use Rattle.rules.proofs.Fits.{all-fit-small, stages-fit}
@@ -51,13 +52,18 @@ text-length : (s : List ℕ) → count s ≤ 512 → convertedLength (ops s) ≤
 unfolding textOf baseRecords
 text-length s h l f = listing-length (count s) (baseRecords s) (omega arith) (omega (arith, base-length s)) (all-narrow (convert (ops s)) f)
 
-pub record Base (s out : List ℕ) (n : ℕ) : Type 0 where
-  pub bounded : n ≤ 4096
-  pub read : (out′ : List ℕ) → out′ ≡ filled (Accepted n) (baseRecords s) out → records (take (8 * n) out′) ≡ baseRecords s
-  pub fits : length (textOf s) ≤ 73744
-  pub answer : (text : List ℕ) → listingOf s text ≡ verdict (roomFor (textOf s) text ∷ []) (length (textOf s))
+-- The listing that is printed from the records in the first 8n bytes of an array.
+abbrev pub from : List ℕ → List ℕ → ℕ → List ℕ
+from s base n = listing (count s) (records (take (8 * n) base))
 
-module _ (s out work : List ℕ) (o : length out ≡ 32768) (w : length work ≡ 32768) where
+pub record Base (s base : List ℕ) (n : ℕ) : Type 0 where
+  pub bounded : n ≤ 4096
+  pub within : 8 * n ≤ length base
+  pub fits : length (from s base n) ≤ 73744
+  pub is-text : from s base n ≡ textOf s
+  pub then-room : (text : List ℕ) → listingOf s text ≡ verdict (roomFor (textOf s) text ∷ []) (length (textOf s))
+
+module _ {s out work base spare : List ℕ} {v : Verdict} (c : Converted s out work v base spare) (o : length out ≡ 32768) (w : length work ≡ 32768) where
   room : {n : ℕ} → alone s ≡ Accepted n → (short (baseCount s) out || short (baseCount s) work) ≡ false
   unfolding short baseCount
   room e =
@@ -65,33 +71,44 @@ module _ (s out work : List ℕ) (o : length out ≡ 32768) (w : length work ≡
       rw (le-ltb (length out) (8 * convertedLength (ops s)) (omega arith), le-ltb (length work) (8 * convertedLength (ops s)) (omega arith))
 
   -- 4,096 records have their room, so that refusals 1 to 7 decide
-  converting-is : (v : Verdict) → alone s ≡ v → converting s out work ≡ v
+  converting-is : (u : Verdict) → alone s ≡ u → converting s out work ≡ u
   unfolding converting verdict verdictOf first orElse when
   converting-is (Accepted n) e =
       accepted-then (routineChecks s) (baseCount s) _ (baseCount s) e
       ∙ rw (room e) (ap Accepted (sym (accepted-count (routineChecks s) (baseCount s) e)))
   converting-is (Refused r) e = refused-then (routineChecks s) (baseCount s) _ (baseCount s) e
 
-  pub refused-as : {r : Refusal} (text : List ℕ) → converting s out work ≡ Refused r → Listed (listingOf s text) (textOf s) text (Refused r) text
+  decided : {u : Verdict} → v ≡ u → alone s ≡ u
+  decided e = sym (converting-is (alone s) refl) ∙ sym (c .answers) ∙ e
+
+  pub refused-as : {r : Refusal} {text : List ℕ} → v ≡ Refused r → Listed (listingOf s text) (textOf s) text (Refused r) text
   unfolding listingOf printed
-  refused-as text e =
-      let l = refused-then (routineChecks s) (baseCount s) _ _ (sym (converting-is (alone s) refl) ∙ e) in
+  refused-as e =
+      let l = refused-then (routineChecks s) (baseCount s) _ _ (decided e) in
       record { answers = sym l; output = rw l }
 
-  pub base-of : {n : ℕ} → converting s out work ≡ Accepted n → Base s out n
-  unfolding filled baseCount listingOf
+  pub base-of : {n : ℕ} → v ≡ Accepted n → Base s base n
+  unfolding filled baseCount listingOf textOf
   base-of {n} e =
-      let a = sym (converting-is (alone s) refl) ∙ e in
+      let a = decided e in
       let h = sound s a in
-      let c = accepted-count (routineChecks s) (baseCount s) a in
+      let k = accepted-count (routineChecks s) (baseCount s) a in
       let f = stages-fit (ops s) (h .bounded) (accepted-ops Routine s (h .faultless) tt) .fourth in
-      let l = base-length s in
+      let l = bytes-length (baseRecords s) in
+      let m = base-length s in
+      let x : base ≡ bytesOf (baseRecords s) ++ drop (8 * n) out = c .output ∙ rw (converting-is (alone s) refl, a) in
+      let t : from s base n ≡ textOf s =
+      ap (λ (b : List ℕ). from s b n) x
+      ∙ ap (λ (b : List ℕ). listing (count s) (records b)) (take-at (bytesOf (baseRecords s)) _ (8 * n) (omega arith))
+      ∙ ap (listing (count s)) (records-back (baseRecords s) (base-small s f)) in
       record {
         bounded = omega (arith, h .bounded);
-        read = λ out′ x.
-            ap (λ (t : List ℕ). records (take (8 * n) t)) x
-            ∙ ap records (take-at (bytesOf (baseRecords s)) _ (8 * n) (omega (arith, bytes-length (baseRecords s))))
-            ∙ records-back (baseRecords s) (base-small s f);
-        fits = text-length s (h .short) (h .bounded) f;
-        answer = λ text. accepted-then (routineChecks s) (baseCount s) _ _ a;
+        within = omega (arith, ap length x, length-append (bytesOf (baseRecords s)) (drop (8 * n) out));
+        fits = rw t (text-length s (h .short) (h .bounded) f);
+        is-text = t;
+        then-room = λ text. accepted-then (routineChecks s) (baseCount s) _ _ a;
       }
+
+  pub listed-as : {n : ℕ} {text text′ : List ℕ} {r : Verdict} → v ≡ Accepted n
+      → Listed (verdict (roomFor (from s base n) text ∷ []) (length (from s base n))) (from s base n) text r text′ → Listed (listingOf s text) (textOf s) text r text′
+  listed-as e p = let b = base-of e in rw (b .then-room _, ← b .is-text) p
