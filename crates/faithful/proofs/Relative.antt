@@ -20,7 +20,7 @@ use Rattle.rules.proofs.Records.{All, Small, records-length, records-back}
 use Rattle.rules.proofs.SecondLevel.{each-length}
 use Rattle.rules.proofs.Instructions.{FitAct, Fit, fit-small, accepted-back, accepted-fit, no-faults, accepted-bytes}
 use Rattle.faithful.specs.Promises.{RelativeAndBack}
-use Rattle.faithful.proofs.Inner.Places.{in-or-out}
+use Rattle.faithful.proofs.Inner.Places.{clash, in-or-out}
 use Rattle.faithful.proofs.Accepted.{held, Proper, accepted}
 
 -- ## A record at i
@@ -77,7 +77,7 @@ stays i k a e g f h = (actRec k a, record { becomes = e; listed = f; back = g; n
     low (compare y) h = omega arith
 
 not-there : {A : Type 0} → true ≡ false → A
-not-there e = absurd (let z : _≡_ {A = ℕ} 0 1 = cc in omega arith)
+not-there e = clash cc
 
 op-turns : (i : ℕ) (o : Op) → 1 ≤ i → i ≤ 9999 → fieldFault Base (encode o) ≡ false → Fit o → Turns i (encode o)
 unfolding computes
