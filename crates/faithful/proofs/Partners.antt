@@ -6,14 +6,16 @@ use native.Mathlib.Numerals.{add-one}
 use native.Mathlib.Omega.{arith}
 use mathlib.Core.List.{append-assoc, append-nil}
 use Rattle.rules.specs.Words.{ℕ, zero, suc, _+_, Bool, some, List, [], _∷_, _++_, drop, getElem?}
-use Rattle.rules.specs.Instruction.{Act, Sort, conditional, loop, Op, header, separator, end}
+use Rattle.rules.specs.Instruction.{Act, Sort, conditional, loop, Op, header, separator, end, ops}
 use Rattle.rules.specs.Numbers.{at}
 use Rattle.rules.specs.Nesting.{bracket}
 use Rattle.rules.specs.WellBuilt.{Body, nothing, single, looping, oneArm, twoArms}
 use Rattle.rules.specs.Partners.{Role, opens, ends, roleOf, role, endAt, separatorAt, endOf, headerOf}
 use Rattle.rules.proofs.Partners.{backAt, back}
 use Rattle.faithful.specs.Items.{Stands, loop-item, one-arm, two-arms, Partnered, Belongs, by-itself, as-header, as-separator, as-end}
-use Rattle.faithful.specs.Promises.{Partners}
+use Rattle.faithful.specs.Promises.{Partners, PartnersFile}
+use Rattle.faithful.proofs.Accepted.{admitted}
+use Rattle.faithful.proofs.Grammar.{grammar}
 use Rattle.faithful.proofs.Inner.Places.{clash, over, over-suc, over-length}
 use Rattle.faithful.proofs.Inner.Reading.{From, whole, next, from-drop, drop-at, from-of, from-over, seek, seeks-end, seeks-separator, seek-body, end-of, separator-of, back-one, back-body, header-of}
 
@@ -143,3 +145,6 @@ module _ (L : List Op) where
 
 pub partners : Partners
 partners L = (partnered L, belongs L)
+
+pub partners-file : PartnersFile
+partners-file f n e = belongs (ops f) (grammar (ops f) .0 .0 (admitted f n e .nested))

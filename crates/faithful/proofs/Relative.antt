@@ -130,9 +130,10 @@ pub relative-and-back : RelativeAndBack
 unfolding toRelative toAbsolute far most
 relative-and-back s n e =
     let h = held Base s n e in
+    let f = h .fines in
     let c = h .counted in
-    let l = h .fines .few in
-    let t = all-turned 1 (records s) (omega arith) (omega (arith, records-length s)) (no-faults Base 1 (count s) s (h .fines .faultless)) in
+    let l = f .few in
+    let t = all-turned 1 (records s) (omega arith) (omega (arith, records-length s)) (no-faults Base 1 (count s) s (f .faultless)) in
     let q = toRelative (records s) in
     let k = each-length relativeAt 1 (records s) ∙ records-length s ∙ c in
     let b = records-back q (all-small q (t .fine)) in
@@ -141,5 +142,5 @@ relative-and-back s n e =
       read-back = b;
       near = t .near;
       same = t .same;
-      same-bytes = λ x. ap (λ (rs : List Rec). bytesOf (toAbsolute rs)) b ∙ ap bytesOf (t .same) ∙ accepted-bytes Base s (h .fines .faultless) x (h .fines .even);
+      same-bytes = λ x. ap (λ (rs : List Rec). bytesOf (toAbsolute rs)) b ∙ ap bytesOf (t .same) ∙ accepted-bytes Base s (f .faultless) x (f .even);
     }
