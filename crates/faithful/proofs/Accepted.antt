@@ -18,6 +18,7 @@ use Rattle.rules.specs.Skip.{skip, convertedLength, grown}
 use Rattle.rules.specs.Answers.{routineChecks, checkRecords, checkRoutine}
 use Rattle.rules.proofs.Records.{All, Small, bytes-length, bytes-count}
 use Rattle.rules.proofs.Refusals.{first-append, accepted-none, accepted-count, none-first, none-then, when-none, whenAt-none, Fine, fine}
+use Rattle.faithful.proofs.Inner.Places.{clash}
 
 -- ## What is accepted
 
@@ -42,7 +43,7 @@ apart cs ds e = by (first cs) refl (sym (first-append cs ds) ∙ e)
   where
     by : (c : Option Refusal) → first cs ≡ c → orElse c (first ds) ≡ none → (first cs ≡ none) × (first ds ≡ none)
     by none q e = (q, e)
-    by (some r) q e = absurd (let z : _≡_ {A = ℕ} 0 1 = cc in omega arith)
+    by (some r) q e = clash cc
 
 pub admitted : (s : List ℕ) (n : ℕ) → checkRoutine s ≡ Accepted n → Admitted s n
 unfolding checkRoutine routineChecks grown

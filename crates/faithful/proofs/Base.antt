@@ -25,12 +25,13 @@ use Rattle.faithful.specs.Promises.{Length, BaseAccepted}
 use Rattle.faithful.proofs.Inner.Turns.{rank, Good, FromOne, Numbered}
 use Rattle.faithful.proofs.Demand.{converted}
 use Rattle.faithful.proofs.Accepted.{admitted, Proper, accepted}
+use Rattle.faithful.proofs.Inner.Places.{clash}
 
 -- ## An accepted routine's outside actions are numbered from 1 on
 
 first-of : (a b c d : Bool) → not (a && b && c && d || false) ≡ false → a ≡ true
 first-of true b c d h = refl
-first-of false b c d h = absurd (let z : _≡_ {A = ℕ} 0 1 = cc in omega arith)
+first-of false b c d h = clash cc
 
 from-one : (k : ℕ) (a : Act) {w : Row} → rowOf Routine k ≡ some w → w .xmin ≡ 1 → fieldFault Routine (actRec k a) ≡ false → FromOne a
 unfolding computes
@@ -96,7 +97,7 @@ all-proper (o ∷ os) r f g = (proper o (r .0) (f .0) (g .0), all-proper os (r .
 -- ## The base
 
 rank-at : (os : List Op) (k j : ℕ) (o : Op) → Good k os → getElem? os j ≡ some o → rank o ≤ k
-rank-at [] k j o g e = absurd (let z : _≡_ {A = ℕ} 0 1 = cc in omega arith)
+rank-at [] k j o g e = clash cc
 rank-at (x ∷ os) k zero o g e = let h : x ≡ o = cc in subst (λ (y : Op). rank y ≤ k) h (g .0)
 rank-at (x ∷ os) k (suc j) o g e = rank-at os k j o (g .2) e
 
@@ -137,5 +138,5 @@ base-accepted s n e =
     }
   where
     kinds : (os : List Op) → Good 0 os → (i : ℕ) (o : Op) → at os i ≡ some o → (1 ≤ encode o .kind) × (encode o .kind ≤ 4)
-    kinds os g zero o e = absurd (let z : _≡_ {A = ℕ} 0 1 = cc in omega arith)
+    kinds os g zero o e = clash cc
     kinds os g (suc j) o e = kind-of o (rank-at os 0 j o g e)

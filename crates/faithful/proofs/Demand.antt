@@ -21,8 +21,8 @@ use Rattle.rules.proofs.Records.{ops-length}
 use Rattle.rules.proofs.Computes.{computes}
 use Rattle.faithful.specs.Promises.{Follows, Demand3, RunFollows, Demand3Run, Demand3File}
 use Rattle.faithful.proofs.Accepted.{admitted}
-use Rattle.faithful.proofs.Inner.Places.{place}
-use Rattle.faithful.proofs.Inner.Simulation.{forkCost, linkCost, cost, costOf, costAt, Way, stay, on, Sim, both, lift, at-in}
+use Rattle.faithful.proofs.Inner.Places.{clash, place}
+use Rattle.faithful.proofs.Inner.Simulation.{forkCost, linkCost, cost, costOf, costAt, Way, stay, on, Sim, both, lift, go-halt, at-in}
 use Rattle.faithful.proofs.Inner.Turns.{rank, Good}
 use Rattle.faithful.proofs.Inner.Stage.{Staged}
 use Rattle.faithful.proofs.Labels.{labels-staged}
@@ -140,7 +140,7 @@ costed L (suc s) i m j m₁ e = by (step L i m) refl e (λ k m₂ h. costed L s 
         let l = r .low in
         let h = r .high in
         record { total = costAt L i m + r .total; way = on a (r .way) refl; low = omega arith; high = omega (arith, mul-suc (2 * length L + 1) s) }
-    by (halt w) a b ih = absurd (let z : _≡_ {A = ℕ} 0 1 = cc in omega arith)
+    by (halt w) a b ih = clash cc
 
 way-after : (L : List Op) → ((i : ℕ) (m : Mem) → costAt L i m ≡ 1) → {i : ℕ} {m : Mem} {j : ℕ} {m₁ : Mem} {c : ℕ} → Way L i m j m₁ c → after L c i m ≡ go j m₁
 unfolding after andThen
@@ -182,9 +182,6 @@ demand3 L a replies log s i m e =
 
 -- ## Runs that stop with budget left over
 
-go-halt : {i : ℕ} {m : Mem} {w : Status} → halt w ≡ go i m → ⊥
-go-halt e = let z : _≡_ {A = ℕ} 0 1 = cc in omega arith
-
 -- Steps that end in a stop are a run ..
 pub run-of : (L : List Op) (c b i : ℕ) (m : Mem) (j : ℕ) (m₁ : Mem) (w : Status) → after L c i m ≡ go j m₁ → step L j m₁ ≡ halt w → c < b
     → run L b i m ≡ record { position = j; mem = m₁; steps = c; status = w }
@@ -218,7 +215,7 @@ run-is L (suc b) i m g = by (step L i m) refl (λ k m₂. run-is L b k m₂) g
 
 stop-halt : (o : Out) (w : Status) → why o ≡ some w → o ≡ halt w
 unfolding why
-stop-halt (go i m) w e = absurd (let z : _≡_ {A = ℕ} 0 1 = cc in omega arith)
+stop-halt (go i m) w e = clash cc
 stop-halt (halt v) w e = let z : v ≡ w = cc in ap halt z
 
 pub demand3-run : Demand3Run

@@ -6,15 +6,17 @@ use native.Mathlib.Numerals.{add-one}
 use native.Mathlib.Omega.{arith}
 use mathlib.Core.List.{append-assoc, append-nil}
 use Rattle.rules.specs.Words.{ℕ, zero, suc, _+_, Bool, some, List, [], _∷_, _++_, drop, getElem?}
-use Rattle.rules.specs.Instruction.{Act, Sort, conditional, loop, Op, header, separator, end}
+use Rattle.rules.specs.Instruction.{Act, Sort, conditional, loop, Op, header, separator, end, ops}
 use Rattle.rules.specs.Numbers.{at}
 use Rattle.rules.specs.Nesting.{bracket}
 use Rattle.rules.specs.WellBuilt.{Body, nothing, single, looping, oneArm, twoArms}
 use Rattle.rules.specs.Partners.{Role, opens, ends, roleOf, role, endAt, separatorAt, endOf, headerOf}
 use Rattle.rules.proofs.Partners.{backAt, back}
 use Rattle.faithful.specs.Items.{Stands, loop-item, one-arm, two-arms, Partnered, Belongs, by-itself, as-header, as-separator, as-end}
-use Rattle.faithful.specs.Promises.{Partners}
-use Rattle.faithful.proofs.Inner.Places.{over, over-suc, over-length}
+use Rattle.faithful.specs.Promises.{Partners, PartnersFile}
+use Rattle.faithful.proofs.Accepted.{admitted}
+use Rattle.faithful.proofs.Grammar.{grammar}
+use Rattle.faithful.proofs.Inner.Places.{clash, over, over-suc, over-length}
 use Rattle.faithful.proofs.Inner.Reading.{From, whole, next, from-drop, drop-at, from-of, from-over, seek, seeks-end, seeks-separator, seek-body, end-of, separator-of, back-one, back-body, header-of}
 
 -- ## An item's partners
@@ -78,7 +80,7 @@ partnered L b h k e (loop-item {j = j} {body = body} rest d y) =
     (record {
       its-end = p .0;
       its-header = p .1;
-      its-separator = λ q. absurd (let z : _≡_ {A = ℕ} 0 1 = cc in omega arith);
+      its-separator = λ q. clash cc;
       separator-end = λ i q. absurd (omega arith);
     })
 partnered L b h k e (one-arm {j = j} {body = body} rest d y) =
@@ -105,7 +107,7 @@ module _ (L : List Op) where
   covered-append (x ∷ xs) ys i c d = (c .0, covered-append xs ys (suc i) (c .1) d)
 
   covered-at : (os : List Op) (i j : ℕ) (o : Op) → Covered i os → getElem? os j ≡ some o → Belongs L (j + i) o
-  covered-at [] i j o c e = absurd (let z : _≡_ {A = ℕ} 0 1 = cc in omega arith)
+  covered-at [] i j o c e = clash cc
   covered-at (x ∷ os) i zero o c e = let h : x ≡ o = cc in rw zero-add (subst (Belongs L i) h (c .0))
   covered-at (x ∷ os) i (suc j) o c e = subst (λ (k : ℕ). Belongs L k o) (omega arith) (covered-at os (suc i) j o (c .1) e)
 
@@ -138,8 +140,11 @@ module _ (L : List Op) where
 
   belongs : Body L → (i : ℕ) (o : Op) → at L i ≡ some o → Belongs L i o
   unfolding at
-  belongs y zero o e = absurd (let z : _≡_ {A = ℕ} 0 1 = cc in omega arith)
+  belongs y zero o e = clash cc
   belongs y (suc j) o e = subst (λ (k : ℕ). Belongs L k o) (add-one j) (covered-at L 1 j o (covered [] y (subst (From L 0) (sym (append-nil L)) whole)) e)
 
 pub partners : Partners
 partners L = (partnered L, belongs L)
+
+pub partners-file : PartnersFile
+partners-file f n e = belongs (ops f) (grammar (ops f) .0 .0 (admitted f n e .nested))

@@ -20,7 +20,7 @@ use Rattle.rules.proofs.Records.{All, Small, records-length, records-back}
 use Rattle.rules.proofs.SecondLevel.{each-length}
 use Rattle.rules.proofs.Instructions.{FitAct, Fit, fit-small, accepted-back, accepted-fit, no-faults, accepted-bytes}
 use Rattle.faithful.specs.Promises.{RelativeAndBack}
-use Rattle.faithful.proofs.Inner.Places.{in-or-out}
+use Rattle.faithful.proofs.Inner.Places.{clash, in-or-out}
 use Rattle.faithful.proofs.Accepted.{held, Proper, accepted}
 
 -- ## A record at i
@@ -77,7 +77,7 @@ stays i k a e g f h = (actRec k a, record { becomes = e; listed = f; back = g; n
     low (compare y) h = omega arith
 
 not-there : {A : Type 0} → true ≡ false → A
-not-there e = absurd (let z : _≡_ {A = ℕ} 0 1 = cc in omega arith)
+not-there e = clash cc
 
 op-turns : (i : ℕ) (o : Op) → 1 ≤ i → i ≤ 9999 → fieldFault Base (encode o) ≡ false → Fit o → Turns i (encode o)
 unfolding computes
@@ -130,9 +130,10 @@ pub relative-and-back : RelativeAndBack
 unfolding toRelative toAbsolute far most
 relative-and-back s n e =
     let h = held Base s n e in
+    let f = h .fines in
     let c = h .counted in
-    let l = h .fines .few in
-    let t = all-turned 1 (records s) (omega arith) (omega (arith, records-length s)) (no-faults Base 1 (count s) s (h .fines .faultless)) in
+    let l = f .few in
+    let t = all-turned 1 (records s) (omega arith) (omega (arith, records-length s)) (no-faults Base 1 (count s) s (f .faultless)) in
     let q = toRelative (records s) in
     let k = each-length relativeAt 1 (records s) ∙ records-length s ∙ c in
     let b = records-back q (all-small q (t .fine)) in
@@ -141,5 +142,5 @@ relative-and-back s n e =
       read-back = b;
       near = t .near;
       same = t .same;
-      same-bytes = λ x. ap (λ (rs : List Rec). bytesOf (toAbsolute rs)) b ∙ ap bytesOf (t .same) ∙ accepted-bytes Base s (h .fines .faultless) x (h .fines .even);
+      same-bytes = λ x. ap (λ (rs : List Rec). bytesOf (toAbsolute rs)) b ∙ ap bytesOf (t .same) ∙ accepted-bytes Base s (f .faultless) x (f .even);
     }

@@ -75,6 +75,10 @@ Partners =
     → ((b : Sort) (h k e : ℕ) → Stands L b h k e → Partnered L b h k e)
     × (Body L → (i : ℕ) (o : Op) → at L i ≡ some o → Belongs L i o)
 
+-- So in a file that is accepted.
+abbrev pub PartnersFile : Type 0
+PartnersFile = (f : List ℕ) (n : ℕ) → checkRoutine f ≡ Accepted n → (i : ℕ) (o : Op) → at (ops f) i ≡ some o → Belongs (ops f) i o
+
 -- ## The base (proofs/Base)
 
 -- The paper's formula is the length of the base.

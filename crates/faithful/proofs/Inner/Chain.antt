@@ -17,7 +17,7 @@ use Rattle.rules.specs.SecondLevel.{members, sent}
 use Rattle.rules.specs.Calls.{chain}
 use Rattle.rules.specs.Stack.{top, popped, nonempty, equals}
 use Rattle.rules.specs.Step.{deed, Mem, withStack, did, perform, Out, go, halt, agree, branch, leaving, does, step}
-use Rattle.faithful.proofs.Inner.Places.{in-or-out, move-in}
+use Rattle.faithful.proofs.Inner.Places.{clash, in-or-out, move-in}
 use Rattle.faithful.proofs.Inner.Simulation.{forkCost, linkCost, cost, costAt, step-is, cost-is, Way, first, in-place, jumped}
 use Rattle.faithful.proofs.Inner.Reading.{From, next, from-at, from-length, separator-of, seek}
 
@@ -75,7 +75,7 @@ unfolding perform equals nonempty
 popped-top m y e = ap (λ (r : Bool). did r (less m)) (by (top (m .stack)) e)
   where
     by : (t : Option ℕ) → equals t y ≡ true → nonempty t ≡ true
-    by none e = absurd (let z : _≡_ {A = ℕ} 0 1 = cc in omega arith)
+    by none e = clash cc
     by (some t) e = refl
 
 module _ (L′ : List Op) (n : ℕ) (P Q : ℕ → ℕ) (goes : (t : ℕ) → moveTo (length L′) (Q t) ≡ P (moveTo n t)) where

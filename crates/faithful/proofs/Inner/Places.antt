@@ -10,6 +10,10 @@ use Rattle.rules.specs.Instruction.{Op}
 use Rattle.rules.specs.Numbers.{names, moveTo}
 use Rattle.rules.specs.SecondLevel.{Group, _▹_, members, seconds, renumber, sent, laid}
 
+-- What cannot be.
+pub clash : {A : Type 0} → _≡_ {A = ℕ} 0 1 → A
+clash e = absurd (omega arith)
+
 -- ## Moves
 
 pub move-in : (n k : ℕ) → k ≤ n → moveTo n k ≡ k

@@ -13,7 +13,7 @@ use Rattle.rules.specs.WellBuilt.{Body, nothing, single, looping, oneArm, twoAr
 use Rattle.rules.specs.Partners.{Role, opens, parts, ends, other, roleOf, role, endAt, endFrom, separatorAt, separatorFrom, endOf, separatorOf, opening, isHeader, headerUpTo, headerOf}
 use Rattle.rules.proofs.Records.{at-getD}
 use Rattle.rules.proofs.Partners.{backAt, roleAt, back, header-back}
-use Rattle.faithful.proofs.Inner.Places.{over, over-append}
+use Rattle.faithful.proofs.Inner.Places.{clash, over, over-append}
 
 -- ## What stands behind the first k records
 
@@ -54,7 +54,7 @@ unfolding at
 from-of L k o e = let r = by L k 0 whole e in (r .0, subst (λ (j : ℕ). From L j (o ∷ r .0)) (add-zero k) (r .1))
   where
     by : (M : List Op) (j q : ℕ) → From L q M → getElem? M j ≡ some o → (os : List Op) × From L (j + q) (o ∷ os)
-    by [] j q t e = absurd (let z : _≡_ {A = ℕ} 0 1 = cc in omega arith)
+    by [] j q t e = clash cc
     by (x ∷ M) zero q t e = let h : x ≡ o = cc in (M, subst (λ (y : Op). From L (0 + q) (y ∷ M)) h (subst (λ (j : ℕ). From L j (x ∷ M)) (omega arith) t))
     by (x ∷ M) (suc j) q t e = let r = by M j (suc q) (next t) e in (r .0, subst (λ (i : ℕ). From L i (o ∷ r .0)) (omega arith) (r .1))
 
@@ -89,16 +89,69 @@ body-over R (twoArms {v = v} {a = a} {first = xs} {second = ys} {rest = r} x y z
     rw (append-assoc xs (separator ∷ (ys ++ zs)) os, append-assoc ys zs os, over-append xs (separator ∷ (ys ++ zs)), over-append ys zs)
     (R .enters s k conditional v a _ ∙ body-over R x _ (suc k) _ ∙ R .turns s k _ _ ∙ body-over R y _ _ _ ∙ R .closes s k _ _ ∙ body-over R z s _ os)
 
+-- ## A reader of one sort's items, by the role that a record has for them
+
+pub record ByRole (b : Sort) (S A : Type 0) : Type 0 where
+  pub reading : S → ℕ → List Op → A
+  pub inside : ℕ → S → S
+  pub passing : (s : S) (k : ℕ) (o : Op) (os : List Op) → role b o ≡ other → reading s k (o ∷ os) ≡ reading s (suc k) os
+  pub entering : (s : S) (k : ℕ) (o : Op) (os : List Op) → role b o ≡ opens → reading s k (o ∷ os) ≡ reading (inside k s) (suc k) os
+  pub turning : (s : S) (h k : ℕ) (o : Op) (os : List Op) → role b o ≡ parts → reading (inside h s) k (o ∷ os) ≡ reading (inside h s) (suc k) os
+  pub leaving : (s : S) (h k : ℕ) (o : Op) (os : List Op) → role b o ≡ ends → reading (inside h s) k (o ∷ os) ≡ reading s (suc k) os
+
+-- x within an item of the reader's own sort, y within one of the other.
+abbrev own : {S : Type 0} → Sort → Sort → S → S → S
+own conditional conditional x y = x
+own conditional loop x y = y
+own loop conditional x y = y
+own loop loop x y = x
+
+by-role : {b : Sort} {S A : Type 0} → ByRole b S A → Reader S A
+unfolding role roleOf bracket
+by-role {b} {S} {A} R = record {
+  reads = R .reading;
+  into = λ c k s. own b c (R .inside k s) s;
+  second = λ k s. own b conditional (R .inside k s) s;
+  passes = λ s k o os e. R .passing s k o os (ap (roleOf b) e);
+  enters = enter b R;
+  leaves = λ s h k c os. leave b c R s h k os;
+  turns = turn b R;
+  closes = leave b conditional R;
+}
+  where
+    enter : (b : Sort) (R : ByRole b S A) (s : S) (k : ℕ) (c : Sort) (v : Bool) (a : Act) (os : List Op)
+        → R .reading s k (header c v a ∷ os) ≡ R .reading (own b c (R .inside k s) s) (suc k) os
+    enter conditional R s k conditional v a os = R .entering s k _ os refl
+    enter conditional R s k loop v a os = R .passing s k _ os refl
+    enter loop R s k conditional v a os = R .passing s k _ os refl
+    enter loop R s k loop v a os = R .entering s k _ os refl
+
+    leave : (b c : Sort) (R : ByRole b S A) (s : S) (h k : ℕ) (os : List Op) → R .reading (own b c (R .inside h s) s) k (end c ∷ os) ≡ R .reading s (suc k) os
+    leave conditional conditional R s h k os = R .leaving s h k _ os refl
+    leave conditional loop R s h k os = R .passing s k _ os refl
+    leave loop conditional R s h k os = R .passing s k _ os refl
+    leave loop loop R s h k os = R .leaving s h k _ os refl
+
+    turn : (b : Sort) (R : ByRole b S A) (s : S) (h k : ℕ) (os : List Op)
+        → R .reading (own b conditional (R .inside h s) s) k (separator ∷ os) ≡ R .reading (own b conditional (R .inside h s) s) (suc k) os
+    turn conditional R s h k os = R .turning s h k _ os refl
+    turn loop R s h k os = R .passing s k _ os refl
+
 -- ## To the right: what the searches for an end and for a separator share
 
--- Inside an item both pass over the items in it; and where every number is sent on by P, so is the number after the one found.
+-- Where every number is sent on by P, so is the number after the one found.
+abbrev Sends : (Role → ℕ → ℕ → (ℕ → ℕ) → ℕ) → Type 0
+Sends at =
+    (P : ℕ → ℕ) → P 0 ≡ 0 → (r : Role) (d k k′ : ℕ) (on on′ : ℕ → ℕ) → past k′ ≡ P (past k) → ((e : ℕ) → past (on′ e) ≡ P (past (on e)))
+    → past (at r d k′ on′) ≡ P (past (at r d k on))
+
+-- Inside an item the items in it are passed over.
 pub record Seeks (at : Role → ℕ → ℕ → (ℕ → ℕ) → ℕ) : Type 0 where
   pub other-passes : (d k : ℕ) (on : ℕ → ℕ) → at other d k on ≡ on d
   pub opens-deepens : (d k : ℕ) (on : ℕ → ℕ) → at opens d k on ≡ on (suc d)
   pub parts-inside : (d k : ℕ) (on : ℕ → ℕ) → at parts (suc d) k on ≡ on (suc d)
   pub ends-inside : (d k : ℕ) (on : ℕ → ℕ) → at ends (suc d) k on ≡ on d
-  pub sent-on : (P : ℕ → ℕ) → P 0 ≡ 0 → (r : Role) (d k k′ : ℕ) (on on′ : ℕ → ℕ) → past k′ ≡ P (past k) → ((e : ℕ) → past (on′ e) ≡ P (past (on e)))
-      → past (at r d k′ on′) ≡ P (past (at r d k on))
+  pub sent-on : Sends at
 
 pub seeks-end : Seeks endAt
 unfolding endAt past given
@@ -110,8 +163,7 @@ seeks-end = record {
   sent-on = by;
 }
   where
-    by : (P : ℕ → ℕ) → P 0 ≡ 0 → (r : Role) (d k k′ : ℕ) (on on′ : ℕ → ℕ) → past k′ ≡ P (past k) → ((e : ℕ) → past (on′ e) ≡ P (past (on e)))
-        → past (endAt r d k′ on′) ≡ P (past (endAt r d k on))
+    by : Sends endAt
     by P z opens d k k′ on on′ e h = h (suc d)
     by P z parts d k k′ on on′ e h = h d
     by P z ends zero k k′ on on′ e h = e
@@ -128,8 +180,7 @@ seeks-separator = record {
   sent-on = by;
 }
   where
-    by : (P : ℕ → ℕ) → P 0 ≡ 0 → (r : Role) (d k k′ : ℕ) (on on′ : ℕ → ℕ) → past k′ ≡ P (past k) → ((e : ℕ) → past (on′ e) ≡ P (past (on e)))
-        → past (separatorAt r d k′ on′) ≡ P (past (separatorAt r d k on))
+    by : Sends separatorAt
     by P z opens d k k′ on on′ e h = h (suc d)
     by P z parts zero k k′ on on′ e h = e
     by P z parts (suc d) k k′ on on′ e h = h (suc d)
@@ -159,50 +210,25 @@ pub separator-of : {L : List Op} {k : ℕ} {o : Op} {os : List Op} → From L k 
 unfolding separatorOf
 separator-of {k} t = ap (separatorFrom 0 (suc (suc k))) (from-drop (next t)) ∙ separator-seek 0 (suc (suc k)) _
 
--- Inside an item of sort c, the items of sort b that are open.
-unfoldable deeper : Sort → Sort → ℕ → ℕ
-deeper conditional conditional d = suc d
-deeper conditional loop d = d
-deeper loop conditional d = d
-deeper loop loop d = suc d
-
-pub other-of : (b : Sort) (o : Op) → bracket o ≡ alone → role b o ≡ other
-unfolding role roleOf
-other-of b o e = ap (roleOf b) e
-
-seeker : (at : Role → ℕ → ℕ → (ℕ → ℕ) → ℕ) → Seeks at → Sort → Reader ℕ ℕ
-unfolding seek role roleOf bracket deeper
+-- d items of the sort are open.
+seeker : (at : Role → ℕ → ℕ → (ℕ → ℕ) → ℕ) → Seeks at → (b : Sort) → ByRole b ℕ ℕ
+unfolding seek
 seeker at S b = record {
-  reads = seek at b;
-  into = λ c k. deeper b c;
-  second = λ k. deeper b conditional;
-  passes = λ d k o os e. ap (λ (r : Role). at r d k (λ x. seek at b x (suc k) os)) (other-of b o e) ∙ S .other-passes d k _;
-  enters = enter b;
-  leaves = λ d h k c os. leave b c d k os;
-  turns = λ d h k os. turn b d k os;
-  closes = λ d h k os. leave b conditional d k os;
+  reading = seek at b;
+  inside = λ h d. suc d;
+  passing = λ d k o os e. one d k os e ∙ S .other-passes d k _;
+  entering = λ d k o os e. one d k os e ∙ S .opens-deepens d k _;
+  turning = λ d h k o os e. one (suc d) k os e ∙ S .parts-inside d k _;
+  leaving = λ d h k o os e. one (suc d) k os e ∙ S .ends-inside d k _;
 }
   where
-    enter : (b : Sort) (d k : ℕ) (c : Sort) (v : Bool) (a : Act) (os : List Op) → seek at b d k (header c v a ∷ os) ≡ seek at b (deeper b c d) (suc k) os
-    enter conditional d k conditional v a os = S .opens-deepens d k _
-    enter conditional d k loop v a os = S .other-passes d k _
-    enter loop d k conditional v a os = S .other-passes d k _
-    enter loop d k loop v a os = S .opens-deepens d k _
-
-    leave : (b c : Sort) (d k : ℕ) (os : List Op) → seek at b (deeper b c d) k (end c ∷ os) ≡ seek at b d (suc k) os
-    leave conditional conditional d k os = S .ends-inside d k _
-    leave conditional loop d k os = S .other-passes d k _
-    leave loop conditional d k os = S .other-passes d k _
-    leave loop loop d k os = S .ends-inside d k _
-
-    turn : (b : Sort) (d k : ℕ) (os : List Op) → seek at b (deeper b conditional d) k (separator ∷ os) ≡ seek at b (deeper b conditional d) (suc k) os
-    turn conditional d k os = S .parts-inside d k _
-    turn loop d k os = S .other-passes d k _
+    one : {r q : Role} (d k : ℕ) (os : List Op) → r ≡ q → at r d k (λ x. seek at b x (suc k) os) ≡ at q d k (λ x. seek at b x (suc k) os)
+    one d k os e = ap (λ (r : Role). at r d k (λ x. seek at b x (suc k) os)) e
 
 pub seek-body : {at : Role → ℕ → ℕ → (ℕ → ℕ) → ℕ} → Seeks at → (b : Sort) {xs : List Op} → Body xs → (d k : ℕ) (os : List Op)
     → seek at b d k (xs ++ os) ≡ seek at b d (over xs k) os
-unfolding seeker
-seek-body {at} S b y d k os = body-over (seeker at S b) y d k os
+unfolding seeker by-role
+seek-body {at} S b y d k os = body-over (by-role (seeker at S b)) y d k os
 
 -- ## To the left: s d is the header of the item that is open d items out
 
@@ -250,44 +276,23 @@ header-found b L i j e = up i e
     up zero e = absurd (omega arith)
     up (suc n) e = by n (at L (suc n)) refl _ e (up n)
 
-unfoldable inner : Sort → Sort → ℕ → (ℕ → ℕ) → ℕ → ℕ
-inner conditional conditional k s d = backAt opens d k s
-inner conditional loop k s d = s d
-inner loop conditional k s d = s d
-inner loop loop k s d = backAt opens d k s
-
-header-reader : Sort → Reader (ℕ → ℕ) (ℕ → ℕ)
-unfolding heads role roleOf bracket inner backAt
-header-reader b = record {
-  reads = heads b;
-  into = inner b;
-  second = inner b conditional;
-  passes = λ s k o os e. ap (λ (r : Role). heads b (λ d. backAt r d k s) (suc k) os) (other-of b o e);
-  enters = enter b;
-  leaves = λ s h k c os. leave b c s h k os;
-  turns = λ s h k os. turn b s h k os;
-  closes = λ s h k os. leave b conditional s h k os;
+opened : (b : Sort) → ByRole b (ℕ → ℕ) (ℕ → ℕ)
+unfolding heads backAt
+opened b = record {
+  reading = heads b;
+  inside = λ h s d. backAt opens d h s;
+  passing = λ s k o os e. one s k os e;
+  entering = λ s k o os e. one s k os e;
+  turning = λ s h k o os e. one (λ d. backAt opens d h s) k os e;
+  leaving = λ s h k o os e. one (λ d. backAt opens d h s) k os e;
 }
   where
-    enter : (b : Sort) (s : ℕ → ℕ) (k : ℕ) (c : Sort) (v : Bool) (a : Act) (os : List Op) → heads b s k (header c v a ∷ os) ≡ heads b (inner b c k s) (suc k) os
-    enter conditional s k conditional v a os = refl
-    enter conditional s k loop v a os = refl
-    enter loop s k conditional v a os = refl
-    enter loop s k loop v a os = refl
-
-    leave : (b c : Sort) (s : ℕ → ℕ) (h k : ℕ) (os : List Op) → heads b (inner b c h s) k (end c ∷ os) ≡ heads b s (suc k) os
-    leave conditional conditional s h k os = refl
-    leave conditional loop s h k os = refl
-    leave loop conditional s h k os = refl
-    leave loop loop s h k os = refl
-
-    turn : (b : Sort) (s : ℕ → ℕ) (h k : ℕ) (os : List Op) → heads b (inner b conditional h s) k (separator ∷ os) ≡ heads b (inner b conditional h s) (suc k) os
-    turn conditional s h k os = refl
-    turn loop s h k os = refl
+    one : {r q : Role} (s : ℕ → ℕ) (k : ℕ) (os : List Op) → r ≡ q → heads b (λ d. backAt r d k s) (suc k) os ≡ heads b (λ d. backAt q d k s) (suc k) os
+    one s k os e = ap (λ (r : Role). heads b (λ d. backAt r d k s) (suc k) os) e
 
 heads-body : (b : Sort) {xs : List Op} → Body xs → (s : ℕ → ℕ) (k : ℕ) → heads b s k xs ≡ s
-unfolding header-reader heads
-heads-body b {xs} y s k = ap (heads b s k) (sym (append-nil xs)) ∙ body-over (header-reader b) y s k []
+unfolding opened by-role heads
+heads-body b {xs} y s k = ap (heads b s k) (sym (append-nil xs)) ∙ body-over (by-role (opened b)) y s k []
 
 pub back-body : {L : List Op} {k : ℕ} (b : Sort) {xs : List Op} (os : List Op) → Body xs → From L k (xs ++ os) → (d : ℕ) → back b L (over xs k) d ≡ back b L k d
 back-body {L} {k} b {xs} os y t d = ap (λ (s : ℕ → ℕ). s d) (back-over b xs os t ∙ heads-body b y (λ e. back b L k e) (suc k))

@@ -9,7 +9,7 @@ use Rattle.rules.specs.Instruction.{Act, push, Op, act, test, jump, label, goto
 use Rattle.rules.specs.Numbers.{at, moveTo}
 use Rattle.rules.specs.Stack.{top, equals}
 use Rattle.rules.specs.Step.{Deed, ask, leap, enter, deed, Mem, Reply, did, stops, perform, Out, go, halt, agree, branch, does, stepAt, step}
-use Rattle.faithful.proofs.Inner.Places.{move-in}
+use Rattle.faithful.proofs.Inner.Places.{clash, move-in}
 
 -- ## What a step costs in the base
 
@@ -87,8 +87,8 @@ abbrev pub Meets : List Op → (ℕ → ℕ) → ℕ → Mem → ℕ → Out →
 Meets L′ P q m c (go j m₁) = Way L′ q m (P j) m₁ c
 Meets L′ P q m c (halt w) = step L′ q m ≡ halt w
 
-go-halt : {i : ℕ} {m : Mem} {w : Status} → halt w ≡ go i m → ⊥
-go-halt e = let z : _≡_ {A = ℕ} 0 1 = cc in omega arith
+pub go-halt : {i : ℕ} {m : Mem} {w : Status} → halt w ≡ go i m → ⊥
+go-halt e = clash cc
 
 -- A simulation, record by record.
 pub simulated : (L L′ : List Op) (P : ℕ → ℕ)
@@ -111,7 +111,7 @@ simulated L L′ P met gone = record { steps = λ i m j m₁ e. s i m j m₁ e (
 pub at-in : {A : Type 0} (xs : List A) (i : ℕ) (x : A) → at xs i ≡ some x → i ≤ length xs
 unfolding at
 at-in xs zero x e = zero-le
-at-in [] (suc k) x e = absurd (let z : _≡_ {A = ℕ} 0 1 = cc in omega arith)
+at-in [] (suc k) x e = clash cc
 at-in (y ∷ ys) (suc zero) x e = omega arith
 at-in (y ∷ ys) (suc (suc k)) x e = omega (arith, at-in ys (suc k) x e)
 

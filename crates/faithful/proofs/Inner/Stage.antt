@@ -21,7 +21,7 @@ use Rattle.rules.proofs.Records.{All, all-append, at-getD, at-none}
 use Rattle.rules.proofs.SecondLevel.{each-length}
 use Rattle.rules.proofs.Partners.{backAt, back}
 use Rattle.rules.proofs.Computes.{computes}
-use Rattle.faithful.proofs.Inner.Places.{in-or-out, over, over-suc, ahead, ahead-out, place, move-out, move-place, move-renumber}
+use Rattle.faithful.proofs.Inner.Places.{clash, in-or-out, over, over-suc, ahead, ahead-out, place, move-out, move-place, move-renumber}
 use Rattle.faithful.proofs.Inner.Simulation.{Sim, simulated, Meets, cost, linkCost, asked, leapt, jumped, opened, called}
 use Rattle.faithful.proofs.Inner.Reading.{From, whole, next, from-at, from-length, from-of, from-over, Seeks, seeks-end, seeks-separator, seek, seek-body, end-of, separator-of, back-one, back-body, header-of, header-found}
 use Rattle.faithful.proofs.Inner.Chain.{Arrives, chain-runs}
@@ -91,7 +91,7 @@ module _ (k : ℕ) (small : k ≤ 2) (f : ℕ → Op → Group) (L : List Op) (g
   width {j} {o} t = by 0 1 L j (from-at t) ∙ ap (λ (i : ℕ). over (members (f i o)) (pre j)) (omega arith) ∙ sym (over-sent Q (members (f (suc j) o)) (pre j))
     where
       by : (q p : ℕ) (M : List Op) (j : ℕ) → getElem? M j ≡ some o → ahead q (each f p M) (suc j) ≡ over (members (f (j + p) o)) (ahead q (each f p M) j)
-      by q p [] j e = absurd (let z : _≡_ {A = ℕ} 0 1 = cc in omega arith)
+      by q p [] j e = clash cc
       by q p (x ∷ M) zero e = let h : x ≡ o = cc in rw (zero-add p, h)
       by q p (x ∷ M) (suc j) e =
           let q′ = over (members (f p x)) q in
@@ -175,7 +175,7 @@ module _ (k : ℕ) (small : k ≤ 2) (f : ℕ → Op → Group) (L : List Op) (g
     where
       by : (xs : List Op) → Reads b o xs → pre (suc j) ≡ over xs (pre j) → From L′ (pre j) (xs ++ laidFrom (suc j) os) → (x : Op) × One j o os x
       by xs (same {x = x} r) w u = (x, record { there = t; here = u; wide = w })
-      by xs (nothing-of r y) w u = absurd (let z : _≡_ {A = ℕ} 0 1 = cc in omega arith)
+      by xs (nothing-of r y) w u = clash cc
 
   -- There is a number here where there is one there.
   given-alike : (s′ s x : ℕ) → past s′ ≡ P (past s) → given s′ (P x) ≡ P (given s x)
@@ -262,13 +262,13 @@ module _ (k : ℕ) (small : k ≤ 2) (f : ℕ → Op → Group) (L : List Op) (g
   sim = simulated L L′ P met gone
     where
       met : (i : ℕ) (o : Op) → at L i ≡ some o → (m : Mem) → Meets L′ P (P i) m (cost (length L) o m) (does (length L) (deed L i o) m)
-      met zero o e m = absurd (let z : _≡_ {A = ℕ} 0 1 = cc in omega arith)
+      met zero o e m = clash cc
       met (suc j) o e m = let t = from-of L j o e .1 in done (f (suc j) o) (turn t) t (along t) (width t) m
 
       gone : (i : ℕ) → at L i ≡ none → at L′ (P i) ≡ none
       gone zero e = refl
       gone (suc j) e = in-or-out (length L) (suc j)
-          (λ h. absurd (let q = at-getD L j (jump 0) h in let z : _≡_ {A = ℕ} 0 1 = cc in omega arith))
+          (λ h. let q = at-getD L j (jump 0) h in clash cc)
           (λ h. at-none L′ (suc (pre j)) (omega (arith, ahead-out Q 0 j gs (omega (arith, each-length f 1 L)))))
 
   -- ## What is left may stand

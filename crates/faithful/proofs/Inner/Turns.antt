@@ -18,6 +18,7 @@ use Rattle.rules.proofs.Records.{All, all-append}
 use Rattle.rules.proofs.Computes.{computes}
 use Rattle.faithful.proofs.Inner.Simulation.{cost}
 use Rattle.faithful.proofs.Inner.Chain.{sent-chain, chain-body}
+use Rattle.faithful.proofs.Inner.Places.{clash}
 
 -- ## What may stand in a list between two stages
 
@@ -118,7 +119,7 @@ unfolding computes
 adds-jump x = refl
 
 true-false : {b : Bool} {A : Type 0} → b ≡ true → b ≡ false → A
-true-false e h = absurd (let z : _≡_ {A = ℕ} 0 1 = cc in omega arith)
+true-false e h = clash cc
 
 module _ {L : List Op} {k i : ℕ} (to : ℕ → ℕ) where
   -- What adds no places becomes one record, which adds none.
