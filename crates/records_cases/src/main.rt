@@ -12,30 +12,41 @@ fn refusal(verdict: Verdict) -> usize {
     }
 }
 
+// The answer to the first n bytes.
+fn first(notation: Notation, s: &[u8], n: usize) -> Verdict {
+    if s.len() < n {
+        return Verdict::Accepted(0);
+    }
+    check_records(notation, &s[..n])
+}
+
 // Files of 0 to 17 bytes, all zero.
 fn short_files() {
     let zeros = [0u8; 17];
     for n in 0..18 {
         show::number(n);
-        show::verdict(b" zero bytes", check_records(Notation::Routine, &zeros[..n]));
+        show::verdict(b" zero bytes", first(Notation::Routine, &zeros, n));
     }
 }
 
-// Files of n and of n + 1 records, all of them a1.
-fn long_files(notation: Notation, n: usize) {
-    let mut s = [0u8; 32776];
+// Every record a1.
+fn fill(s: &mut [u8]) {
+    let n = s.len() / 8;
     let mut i = 0;
-    while i < 4097 {
+    while i < n {
         put_record(&mut s[8 * i..], 1, 1, 0);
         i += 1;
     }
-    if 4096 < n {
-        return;
+}
+
+// As many records as allowed, and one more.
+fn long_files(notation: Notation, bytes: usize) {
+    let mut s = [0u8; 32776];
+    fill(&mut s);
+    show::verdict(b"as long as allowed", first(notation, &s, bytes));
+    if bytes <= 32768 {
+        show::verdict(b"one record more", first(notation, &s, bytes + 8));
     }
-    let most = 8 * n;
-    let more = 8 * n + 8;
-    show::verdict(b"as long as allowed", check_records(notation, &s[..most]));
-    show::verdict(b"one record more", check_records(notation, &s[..more]));
 }
 
 // The answer to one record, as a number.
@@ -48,8 +59,10 @@ fn record(notation: Notation, kind: u8, x: u16, y: u16) {
 // Every kind, with the same x and y.
 fn every_kind(notation: Notation, x: u16, y: u16) {
     show::word(b"kinds 0 to 255: ");
-    for kind in 0..256 {
-        record(notation, kind as u8, x, y);
+    let mut kind: usize = 0;
+    while kind < 256 {
+        record(notation, (kind % 256) as u8, x, y);
+        kind += 1;
     }
     show::word(b"\n");
 }
@@ -91,8 +104,7 @@ fn every_field(notation: Notation) {
 fn spare_bytes() {
     for at in 0..8 {
         let mut s = [0u8; 16];
-        put_record(&mut s, 1, 1, 0);
-        put_record(&mut s[8..], 1, 1, 0);
+        fill(&mut s);
         s[8 + at] = 1;
         show::word(b"byte ");
         show::number(at);
@@ -100,8 +112,8 @@ fn spare_bytes() {
     }
 }
 
-fn notation(notation: Notation, most: usize) {
-    long_files(notation, most);
+fn notation(notation: Notation, bytes: usize) {
+    long_files(notation, bytes);
     every_kind(notation, 0, 0);
     every_kind(notation, 1, 0);
     every_kind(notation, 1, 1);
@@ -111,10 +123,10 @@ fn notation(notation: Notation, most: usize) {
 fn main() {
     short_files();
     show::word(b"routine\n");
-    notation(Notation::Routine, 512);
+    notation(Notation::Routine, 4096);
     show::word(b"base\n");
-    notation(Notation::Base, 4096);
+    notation(Notation::Base, 32768);
     show::word(b"relative base\n");
-    notation(Notation::Relative, 4096);
+    notation(Notation::Relative, 32768);
     spare_bytes();
 }
