@@ -1,0 +1,19 @@
+use borrow.Author.Needs.{needs}
+use Rattle.machine.proofs.Turning.{turns-return-none, turns-return-zero, turns-return-out, turns-return}
+use Rattle.machine.proofs.turn.go_back.Statement.{statement}
+use Rattle.machine.proofs.turn.go_back.Tie as tie
+
+pub go-back-spec : {M : Type 1} → statement M
+go-back-spec =
+    tie.close
+    (tie.spec
+    (λ c. turns-return-none _ _ _ (c .if1 .taken))
+    (λ c. search needs)
+    (λ c. search needs)
+    (λ c. search needs)
+    (λ c κs. search needs)
+    (λ c. turns-return-zero _ _ _ (c .before .before .before .before .pre .0) (c .before .before .before .if1 .left) (c .before .before .before .before .pre .1) _ (c .before .wide .ensures) (c .if2 .taken))
+    (λ c. turns-return-out _ _ _ (c .before .before .before .before .before .pre .0) (c .before .before .before .before .if1 .left) (c .before .before .before .before .before .pre .1) _ (c .before .before .wide .ensures) (c .if3 .taken))
+    (λ c. search needs)
+    (λ c. search needs)
+    (λ c. turns-return _ _ _ (c .before .before .before .before .before .pre .0) (c .before .before .before .before .if1 .left) (c .before .before .before .before .before .pre .1) _ (c .before .before .wide .ensures) (c .before .if2 .left) (c .if3 .left)))
