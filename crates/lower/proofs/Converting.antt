@@ -1,14 +1,12 @@
 -- The verdict on a conversion, by what its checks found in their order; and the contract, by the verdict.
-use mathlib.Core.Path.{_≡_, refl, sym, ap, _∙_}
+use mathlib.Core.Path.{_≡_, sym, _∙_}
 use Prim.Native.Nat.{ℕ, _*_, _≤_, _<_}
-use native.Mathlib.Omega.{arith}
-use mathlib.Core.Bool.{Bool, true, false, cond, _||_}
+use mathlib.Core.Bool.{Bool, true, false, _||_}
 use mathlib.Core.List.{List, [], _∷_}
 use lib.ListN.{length, replicate, length-map}
 use borrow.Author.Tests.{lt-ltb, le-ltb, le-leb}
 use Rattle.rules.specs.declared.Refusal.{Refusal}
 use Rattle.rules.specs.declared.Refusal.the-variants.{Room}
-use Rattle.rules.specs.declared.Verdict.{Verdict}
 use Rattle.rules.specs.declared.Verdict.the-variants.{Accepted, Refused}
 use Rattle.rules.specs.Record.{count}
 use Rattle.rules.specs.Instruction.{encode, ops}

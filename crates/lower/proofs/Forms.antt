@@ -2,14 +2,13 @@
 --     forms, form     the sixteen forms that the record's fields may be of; the one that its kind says
 --     by-kind         a value that goes by the kind alone, by its table
 --     sent-jump, sent-other     a jump is sent on, and every other record stays
-use mathlib.Core.Path.{_≡_, refl, sym, ap, _∙_}
-use mathlib.Core.Logic.{_≢_}
-use Prim.Native.Nat.{ℕ, zero, suc, _≤_}
+use mathlib.Core.Path.{_≡_, sym, ap, _∙_}
+use Prim.Native.Nat.{ℕ, _≤_}
 use native.Mathlib.Nat.{add-zero}
-use mathlib.Core.List.{List, [], _∷_, map}
+use mathlib.Core.List.{List, _∷_, map}
 use lib.ListN.{getD, List·getD-map}
 use Rattle.rules.specs.Record.{Rec, rec}
-use Rattle.rules.specs.Instruction.{Sort, conditional, loop, Op, act, test, jump, label, goto, goto2, header, separator, end, call, return, actOf, written, decode, encode}
+use Rattle.rules.specs.Instruction.{Op, act, test, jump, label, goto, goto2, header, separator, end, call, return, actOf, written, decode, encode}
 use Rattle.rules.specs.SecondLevel.{sent}
 use Rattle.rules.proofs.Instructions.{tabulate, tabulated}
 

@@ -8,8 +8,8 @@ use lib.ListN.{length, getD, set}
 use lib.Seq.{getD-set-other}
 use Rattle.rules.specs.Record.{Rec, rec, count}
 use Rattle.rules.specs.Numbers.{given, past}
-use Rattle.rules.specs.Instruction.{Act, Sort, conditional, loop, Op, test, jump, header, separator, end, xOf, yOf, written, decode, encode, ops}
-use Rattle.rules.specs.SecondLevel.{Group, _▹_, stays, members, sent}
+use Rattle.rules.specs.Instruction.{Act, Sort, conditional, loop, Op, test, jump, header, xOf, yOf, written, decode, encode, ops}
+use Rattle.rules.specs.SecondLevel.{_▹_, stays, members, sent}
 use Rattle.rules.specs.Labels.{target, target2, unlabel}
 use Rattle.rules.specs.Calls.{uncall}
 use Rattle.rules.specs.Partners.{endOf, separatorOf, headerOf}

@@ -3,7 +3,7 @@
 --     asks, next     it meets what the next stage asks, which writes what it makes of the first one's instructions
 --     over           a later stage that writes as much over an earlier one leaves the rest as it was before both
 --     Ready, ready   what an accepted routine gives the stages
-use mathlib.Core.Path.{_≡_, refl, sym, ap, _∙_}
+use mathlib.Core.Path.{_≡_, sym, ap, _∙_}
 use Prim.Native.Nat.{ℕ, _+_, _-_, _*_, _≤_}
 use native.Mathlib.Omega.{arith}
 use mathlib.Core.List.{List, _++_, map}
@@ -17,7 +17,7 @@ use Rattle.rules.specs.SecondLevel.{removed}
 use Rattle.rules.specs.Checks.{most}
 use Rattle.rules.specs.Skip.{convertedLength}
 use Rattle.rules.specs.Answers.{checkRoutine}
-use Rattle.rules.proofs.Records.{All, bytes-length, bytes-count, records-back, ops-length}
+use Rattle.rules.proofs.Records.{All, records-back, ops-length}
 use Rattle.rules.proofs.Instructions.{Fit, accepted-ops, accepted-records}
 use Rattle.rules.proofs.Length.{labels-length, labels-room}
 use Rattle.rules.proofs.Fits.{Stages, stages-fit, all-fit-small, fit-ops}

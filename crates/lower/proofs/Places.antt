@@ -7,21 +7,20 @@ use mathlib.Core.Path.{_≡_, refl, sym, ap, _∙_}
 use Prim.Native.Nat.{ℕ, zero, suc, _+_, _-_, _*_, _≤_, _<_}
 use native.Mathlib.Numerals.{add-one}
 use native.Mathlib.Omega.{arith}
-use mathlib.Core.Bool.{Bool, true, false}
-use mathlib.Core.List.{List, [], _∷_, _++_, map}
+use mathlib.Core.List.{List, [], _∷_, map}
 use lib.ListN.{length, getD, length-append, length-map, List·getD-map}
 use borrow.Author.Tests.{ne-eqb}
 use Rattle.rules.specs.Record.{Rec, rec, count, records}
-use Rattle.rules.specs.Numbers.{each, given, past}
-use Rattle.rules.specs.Instruction.{Sort, conditional, loop, Op, act, test, jump, label, goto, goto2, header, separator, end, call, return, written, decode, encode, ops}
-use Rattle.rules.specs.SecondLevel.{Group, _▹_, members, seconds, renumber, sent, laid, removed}
+use Rattle.rules.specs.Numbers.{given, past}
+use Rattle.rules.specs.Instruction.{conditional, Op, jump, end, written, decode, encode, ops}
+use Rattle.rules.specs.SecondLevel.{members, seconds, sent, removed}
 use Rattle.rules.specs.Labels.{unlabel, labels}
 use Rattle.rules.specs.Calls.{chain, uncall}
 use Rattle.rules.specs.Loops.{unloop}
 use Rattle.rules.specs.Conditionals.{uncond}
 use Rattle.rules.proofs.Records.{ops-length}
 use Rattle.rules.proofs.Instructions.{tabulate}
-use Rattle.rules.proofs.SecondLevel.{each-length, groups, groups-ext, groups-next, groups-grow, groups-map, lowered, stage-groups, seconds-groups, renumber-groups, renumber-zero, renumber-out, single, each-groups}
+use Rattle.rules.proofs.SecondLevel.{groups, groups-ext, groups-next, groups-grow, groups-map, lowered, stage-groups, seconds-groups, renumber-groups, renumber-zero, renumber-out, single, each-groups}
 use Rattle.records.specs.Reading.{recAt}
 use Rattle.records.proofs.Writing.{rec-getD}
 use Rattle.lower.specs.declared.second_level.Stage.{Stage}

@@ -6,7 +6,6 @@ use crate::second_level::put_pair;
 use records::kind_at;
 use records::put_record;
 use records::x_at;
-ghost use mathlib.Core.Path.{_≡_};
 ghost use mathlib.Core.List.{[], _∷_, map};
 ghost use Prim.Native.Nat.{_*_, _≤_, _<_};
 ghost use lib.ListN.{length};

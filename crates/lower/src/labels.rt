@@ -5,7 +5,6 @@ use records::x_at;
 use records::y_at;
 use shape::target;
 use shape::target2;
-ghost use mathlib.Core.Path.{_≡_};
 ghost use mathlib.Core.List.{[], _∷_, map};
 ghost use Prim.Native.Nat.{_*_, _≤_};
 ghost use lib.ListN.{length};

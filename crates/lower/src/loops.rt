@@ -10,7 +10,6 @@ use records::x_at;
 use records::y_at;
 use shape::loop_end;
 use shape::loop_header;
-ghost use mathlib.Core.Path.{_≡_};
 ghost use mathlib.Core.List.{map};
 ghost use Prim.Native.Nat.{_*_, _≤_};
 ghost use lib.ListN.{length};

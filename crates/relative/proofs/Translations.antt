@@ -1,11 +1,9 @@
 -- The verdict on a translation, by what its checks found in their order; and the contract, by the verdict.
-use mathlib.Core.Path.{_≡_, refl, sym, ap, _∙_}
+use mathlib.Core.Path.{_≡_, refl, sym, _∙_}
 use Prim.Native.Nat.{ℕ, zero, suc, _*_, _≤_, _<_}
-use native.Mathlib.Omega.{arith}
 use mathlib.Core.List.{List, [], _∷_}
 use lib.ListN.{length}
 use borrow.Author.Tests.{lt-ltb, le-ltb}
-use Rattle.rules.specs.declared.Notation.{Notation}
 use Rattle.rules.specs.declared.Notation.the-variants.{Base, Relative}
 use Rattle.rules.specs.declared.Refusal.{Refusal}
 use Rattle.rules.specs.declared.Refusal.the-variants.{Room, Far}
@@ -13,7 +11,7 @@ use Rattle.rules.specs.declared.Verdict.{Verdict}
 use Rattle.rules.specs.declared.Verdict.the-variants.{Accepted, Refused}
 use Rattle.rules.specs.Record.{Rec, count, records}
 use Rattle.rules.specs.Refusals.{when, whenAt, orElse, first, verdictOf, verdict}
-use Rattle.rules.specs.Checks.{most, recordChecks}
+use Rattle.rules.specs.Checks.{recordChecks}
 use Rattle.rules.specs.Relative.{far}
 use Rattle.rules.specs.Answers.{short, checkRecords, filled, relating, absoluting, Translated}
 use Rattle.rules.proofs.Refusals.{refused-then, accepted-then, held}

@@ -4,14 +4,13 @@
 --     when-none, whenAt-none     a check that finds nothing: its test is false, its place 0
 --     Fine, fine     no refusal 1 to 4: no bytes left over, not too many records, none with a fault
 --     Held, held, Admitted, admitted     an accepted file, and an accepted routine
-use mathlib.Core.Path.{_≡_, refl, sym, ap, _∙_}
+use mathlib.Core.Path.{_≡_, refl, sym, _∙_}
 use Prim.Native.Nat.{ℕ, zero, suc, _%_, _≤_}
 use native.Mathlib.Omega.{arith}
-use mathlib.Core.Bool.{Bool, true, false, not}
+use mathlib.Core.Bool.{Bool, true, false}
 use mathlib.Core.Option.{Option, none, some}
 use mathlib.Core.List.{List, [], _∷_, _++_}
 use lib.ListN.{length}
-use lib.Dec.{eqb}
 use borrow.Author.Tests.{not-false, eqb-true, ltb-false}
 use Rattle.rules.specs.declared.Notation.{Notation}
 use Rattle.rules.specs.declared.Notation.the-variants.{Routine}

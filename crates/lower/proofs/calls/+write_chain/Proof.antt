@@ -1,5 +1,5 @@
 -- The link, then the chain for j-1 in the rest, then its end. The measure is j.
-use mathlib.Core.Path.{_≡_, refl, sym, ap, _∙_}
+use mathlib.Core.Path.{_≡_, refl}
 use Prim.Native.Nat.{ℕ, _+_, _-_, _*_, _≤_, _<_}
 use native.Mathlib.Omega.{arith}
 use borrow.Author.Needs.{needs}
@@ -8,7 +8,6 @@ use borrow.Fn.Kinds.{In}
 use borrow.Fn.PlainCycle.{Measures, is, falls, and}
 use Rattle.rules.specs.Instruction.{ops}
 use Rattle.records.proofs.Writing.{eight, put, one, wrote-length, more}
-use Rattle.lower.specs.Stages.{chainOf}
 use Rattle.lower.proofs.Chains.{chainOf-length, chain-link, chain-last}
 use Rattle.lower.proofs.calls.write_chain.Reads as write-chain
 use Rattle.lower.proofs.calls.write_chain.Kinds as write-chain-kinds

@@ -1,4 +1,4 @@
-use mathlib.Core.Path.{_≡_, sym, _∙_}
+use mathlib.Core.Path.{sym, _∙_}
 use borrow.Author.Needs.{needs}
 use Rattle.lower.proofs.Places.{given-none, given-some}
 use Rattle.lower.proofs.conditionals.past_end.Statement.{statement}

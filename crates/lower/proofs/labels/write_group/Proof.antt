@@ -1,7 +1,6 @@
-use mathlib.Core.Path.{_≡_, ap, _∙_}
+use mathlib.Core.Path.{ap, _∙_}
 use native.Mathlib.Omega.{arith}
 use borrow.Author.Needs.{needs}
-use Rattle.rules.specs.Record.{count}
 use Rattle.rules.specs.Instruction.{encode, ops}
 use Rattle.rules.proofs.Records.{ops-length}
 use Rattle.rules.proofs.Fits.{target-in, target2-in}

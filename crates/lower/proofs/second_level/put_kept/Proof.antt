@@ -1,4 +1,4 @@
-use mathlib.Core.Path.{_≡_, _∙_}
+use mathlib.Core.Path.{_∙_}
 use borrow.Author.Needs.{needs}
 use Rattle.records.proofs.Writing.{copied, one}
 use Rattle.lower.proofs.Forms.{sent-jump, sent-other}
