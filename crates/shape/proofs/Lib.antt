@@ -3,3 +3,4 @@ pub mod Targets
 pub mod Bodies
 pub mod Lengths
 pub mod Verdicts
+pub mod Once
