@@ -8,3 +8,4 @@ pub mod Turning
 pub mod Running
 pub mod Stepping
 pub mod Checking
+pub mod Once
