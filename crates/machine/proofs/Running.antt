@@ -33,6 +33,15 @@ unfolding moveTo names
 move-in n zero h = refl
 move-in n (suc k) h = rw (le-leb (suc k) n h)
 
+pub move-least : (n k : ℕ) → moveTo n k ≤ n
+unfolding moveTo names
+move-least n zero = omega arith
+move-least n (suc k) = by (leb (suc k) n) refl
+  where
+    by : (b : Bool) → leb (suc k) n ≡ b → cond b (suc k) 0 ≤ n
+    by true e = leb-true (suc k) n e
+    by false e = omega arith
+
 pub names-zero : (n k : ℕ) → k ≡ 0 → names n k ≡ false
 unfolding names
 names-zero n k e = rw e

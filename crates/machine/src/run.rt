@@ -4,6 +4,7 @@ use crate::deed::Own;
 use crate::deed::deed_at;
 use crate::outside::Said;
 use crate::outside::outside;
+use crate::place::names;
 use crate::turn::Turned;
 use crate::turn::turn;
 use rules::Outcome;
@@ -15,7 +16,6 @@ ghost use mathlib.Core.Path.{_≡_};
 ghost use Prim.Native.Nat.{_*_, _≤_};
 ghost use lib.ListN.{length};
 ghost use Rattle.rules.specs.Record.{count};
-ghost use Rattle.rules.specs.Numbers.{names};
 ghost use Rattle.rules.specs.Instruction.{ops};
 ghost use Rattle.rules.specs.Run.{run};
 ghost use Rattle.rules.specs.Answers.{Called, ran, memAt};
@@ -32,7 +32,7 @@ pub enum Moved {
     OnStack(Own),
 }
 
-fn move_on(
+pub fn move_on(
     s: &[u8],
     places: &[usize],
     replies: &[u8],
@@ -59,16 +59,6 @@ fn move_on(
         }
         Deed::OnStack(own) => Moved::OnStack(own),
     }
-}
-
-// Whether k is in 1..n.
-fn names(n: usize, k: usize) -> bool
-    ensures { λ r. ⌜ r ≡ names n k ⌝ }
-{
-    if k == 0 {
-        return false;
-    }
-    k <= n
 }
 
 // What a run that stops here answers.
