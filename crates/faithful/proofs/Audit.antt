@@ -3,14 +3,12 @@
 use mathlib.Core.Path.{_≡_, refl, sym, ap, _∙_, subst}
 use Prim.Native.Nat.{ℕ, zero, suc, _+_, _*_, _≤_, _<_, zero-le}
 use native.Mathlib.Omega.{arith}
-use native.Mathlib.Nat.{le-refl}
 use mathlib.Core.Bool.{Bool, true, false, cond, _||_}
 use mathlib.Core.Option.{Option, none, some}
 use mathlib.Core.List.{List, [], _∷_, _++_, map}
 use borrow.Author.Tests.{leb-true, eq-eqb, ne-eqb}
 use lib.ListN.{length, take, drop, length-map}
 use lib.Seq.{take-at}
-use lib.Dec.{eqb, leb}
 use Rattle.rules.specs.declared.Notation.the-variants.{Base}
 use Rattle.rules.specs.declared.Refusal.{Refusal}
 use Rattle.rules.specs.declared.Refusal.the-variants.{Room, Reply as BadReply}
@@ -18,10 +16,9 @@ use Rattle.rules.specs.declared.Verdict.{Verdict}
 use Rattle.rules.specs.declared.Verdict.the-variants.{Accepted}
 use Rattle.rules.specs.declared.Status.{Status}
 use Rattle.rules.specs.declared.Status.the-variants.{Ended, NoReply, LogFull, StackFull, Spent}
-use Rattle.rules.specs.declared.Outcome.{Outcome}
 use Rattle.rules.specs.declared.Outcome.the-variants.{Stopped, TurnedAway}
 use Rattle.rules.specs.Numbers.{at, names, moveTo}
-use Rattle.rules.specs.Record.{count, bytesOf}
+use Rattle.rules.specs.Record.{count}
 use Rattle.rules.specs.Instruction.{Act, outside, push, pop, compare, Op, jump, encode, ops, file}
 use Rattle.rules.specs.Refusals.{when, whenAt, orElse, first, verdictOf, verdict}
 use Rattle.rules.specs.Checks.{recordChecks}
@@ -30,12 +27,12 @@ use Rattle.rules.specs.Convert.{convert}
 use Rattle.rules.specs.Stack.{top}
 use Rattle.rules.specs.Step.{Deed, ask, leap, enter, leave, Mem, noReplyLeft, logIsFull, perform, Reply, did, stops, Out, go, halt, agree, branch, leaving, does, stepAt, step}
 use Rattle.rules.specs.Stack.{full}
-use Rattle.rules.specs.Run.{after, andThen, why, Run, stopped, oneMore, onward, run, startOf, freshMem, runs}
+use Rattle.rules.specs.Run.{after, andThen, why, Run, oneMore, onward, run, startOf, freshMem, runs}
 use Rattle.rules.specs.Answers.{routineChecks, short, checkRecords, checkRoutine, filled, baseRecords, baseCount, converting, Converted, Call, ran, turnedAway, unless, noState, badReply, running, runRoutine, runBase}
 use Rattle.rules.proofs.Records.{at-getD, bytes-length, ops-length}
 use Rattle.rules.proofs.Refusals.{or-none, first-append, accepted-none, accepted-count}
 use Rattle.rules.proofs.Runs.{run-steps, run-more}
-use Rattle.faithful.specs.Promises.{Follows, RunFollows, Based}
+use Rattle.faithful.specs.Promises.{Based}
 use Rattle.faithful.specs.Audit.{Alike, Followed, Audited, Audit}
 use Rattle.faithful.proofs.Demand.{demand3, demand3-run}
 use Rattle.faithful.proofs.Accepted.{admitted}

@@ -1,45 +1,43 @@
 -- What conversion gives is accepted as a base, and read back from its bytes: its kinds are 1 to 4, its numbers fit their fields.
 -- From the stages, the length law and the laws of fields of `rules`.
 use mathlib.Core.Path.{_≡_, refl, sym, ap, _∙_, subst}
-use Prim.Native.Nat.{ℕ, zero, suc, _+_, _≤_, _<_, zero-le}
+use Prim.Native.Nat.{_≤_}
 use native.Mathlib.Omega.{arith}
-use mathlib.Core.Bool.{Bool, true, false, not, cond, _&&_, _||_}
-use mathlib.Core.Option.{Option, none, some}
-use mathlib.Core.List.{List, [], _∷_, _++_, map}
-use lib.ListN.{length, getElem?, length-map}
-use lib.Dec.{leb, leb·zero}
-use borrow.Author.Tests.{leb-true, le-leb, not-false}
+use lib.ListN.{length-map}
+use lib.Dec.{leb·zero}
+use borrow.Author.Tests.{leb-true, le-leb}
+use Rattle.rules.specs.Words.{ℕ, zero, suc, Bool, true, false, not, _&&_, _||_, Option, some, List, [], _∷_, map, getElem?, leb}
 use Rattle.rules.specs.declared.Row.{Row}
 use Rattle.rules.specs.declared.Notation.the-variants.{Routine, Base}
 use Rattle.rules.specs.declared.Verdict.the-variants.{Accepted}
-use Rattle.rules.specs.Record.{Rec, rec, bytesOf, count, records}
+use Rattle.rules.specs.Record.{Rec, count, records}
 use Rattle.rules.specs.Numbers.{at, names}
 use Rattle.rules.specs.Table.{rowOf}
-use Rattle.rules.specs.Instruction.{Act, outside, push, pop, compare, conditional, loop, Op, act, test, jump, label, goto, goto2, header, separator, end, call, return, xOf, yOf, actRec, encode, decode, ops, file}
+use Rattle.rules.specs.Instruction.{Act, outside, push, pop, compare, conditional, loop, Op, act, test, jump, label, goto, goto2, header, separator, end, call, return, actRec, encode, decode, ops, file}
 use Rattle.rules.specs.Checks.{most, listed, inRow, fieldFault}
-use Rattle.rules.specs.Skip.{skip, convertedLength}
 use Rattle.rules.specs.Convert.{convert}
-use Rattle.rules.specs.Answers.{checkRecords, checkRoutine}
 use Rattle.rules.proofs.Computes.{computes}
-use Rattle.rules.proofs.Records.{All, Small, ops-length}
-use Rattle.rules.proofs.Instructions.{FitAct, Fit, fit-small, accepted-back, accepted-ops, no-faults}
+use Rattle.rules.proofs.Records.{All}
+use Rattle.rules.proofs.Instructions.{FitAct, Fit, accepted-back, accepted-ops, no-faults}
 use Rattle.rules.proofs.Length.{converted-length}
-use Rattle.rules.proofs.Fits.{Stages, stages-fit, fit-ops}
-use Rattle.faithful.specs.Promises.{Length, Based, BaseAccepted}
-use Rattle.faithful.proofs.Stage.{rank, Good, FromOne, Numbered, Staged}
+use Rattle.rules.proofs.Fits.{stages-fit, fit-ops}
+use Rattle.faithful.specs.Promises.{Length, BaseAccepted}
+use Rattle.faithful.proofs.Inner.Turns.{rank, Good, FromOne, Numbered}
 use Rattle.faithful.proofs.Demand.{converted}
-use Rattle.faithful.proofs.Accepted.{Held, Admitted, admitted, Fine, accepted}
+use Rattle.faithful.proofs.Accepted.{admitted, Proper, accepted}
+use Rattle.faithful.proofs.Inner.Places.{clash}
 
 -- ## An accepted routine's outside actions are numbered from 1 on
 
 first-of : (a b c d : Bool) → not (a && b && c && d || false) ≡ false → a ≡ true
 first-of true b c d h = refl
-first-of false b c d h = absurd (let z : _≡_ {A = ℕ} 0 1 = cc in omega arith)
+first-of false b c d h = clash cc
 
 from-one : (k : ℕ) (a : Act) {w : Row} → rowOf Routine k ≡ some w → w .xmin ≡ 1 → fieldFault Routine (actRec k a) ≡ false → FromOne a
 unfolding computes
 from-one k (outside n) {w} r m e =
-    leb-true 1 n (ap (λ (l : ℕ). leb l n) (sym m) ∙ first-of (leb (w .xmin) n) _ _ _ (subst (λ (o : Option Row). not (inRow o (actRec k (outside n)) || false) ≡ false) r e))
+    let f : leb (w .xmin) n ≡ true = first-of _ _ _ _ (subst (λ (o : Option Row). not (inRow o (actRec k (outside n)) || false) ≡ false) r e) in
+    leb-true 1 n (ap (λ (l : ℕ). leb l n) (sym m) ∙ f)
 from-one k (push y) r m e = tt
 from-one k pop r m e = tt
 from-one k (compare y) r m e = tt
@@ -68,38 +66,38 @@ numbered (r ∷ rs) h = (numbered-one (decode r) (ap (fieldFault Routine) (accep
 
 -- ## A record of a base
 
-fine-act : (k : ℕ) (a : Act) → rowOf Base k ≡ rowOf Base 1 → names 3 k ≡ true → FitAct a → FromOne a → Fine Base (actRec k a)
+proper-act : (k : ℕ) (a : Act) → rowOf Base k ≡ rowOf Base 1 → names 3 k ≡ true → FitAct a → FromOne a → Proper Base (actRec k a)
 unfolding computes
-fine-act k (outside n) r e f g = record { kind-listed = ap listed r; fields-in = rw (r, le-leb 1 n g, le-leb n 999 f); small = omega arith }
-fine-act k (push y) r e f g = record { kind-listed = ap listed r; fields-in = rw (r, e, le-leb y 9999 f); small = omega arith }
-fine-act k pop r e f g = record { kind-listed = ap listed r; fields-in = rw (r, e); small = omega arith }
-fine-act k (compare y) r e f g = record { kind-listed = ap listed r; fields-in = rw (r, e, le-leb y 9999 f); small = omega arith }
+proper-act k (outside n) r e f g = record { kind-listed = ap listed r; fields-in = rw (r, le-leb 1 n g, le-leb n 999 f); small = omega arith }
+proper-act k (push y) r e f g = record { kind-listed = ap listed r; fields-in = rw (r, e, le-leb y 9999 f); small = omega arith }
+proper-act k pop r e f g = record { kind-listed = ap listed r; fields-in = rw (r, e); small = omega arith }
+proper-act k (compare y) r e f g = record { kind-listed = ap listed r; fields-in = rw (r, e, le-leb y 9999 f); small = omega arith }
 
-fine : (o : Op) → rank o ≤ 0 → Fit o → Numbered o → Fine Base (encode o)
+proper : (o : Op) → rank o ≤ 0 → Fit o → Numbered o → Proper Base (encode o)
 unfolding computes
-fine (act a) r f g = fine-act 1 a refl refl f g
-fine (test true a) r f g = fine-act 2 a refl refl f g
-fine (test false a) r f g = fine-act 3 a refl refl f g
-fine (jump k) r f g = record { kind-listed = refl; fields-in = rw (leb·zero k, le-leb k 9999 f); small = omega arith }
-fine (label s) r f g = absurd (omega arith)
-fine (goto s) r f g = absurd (omega arith)
-fine (goto2 s t) r f g = absurd (omega arith)
-fine (header conditional v a) r f g = absurd (omega arith)
-fine (header loop v a) r f g = absurd (omega arith)
-fine separator r f g = absurd (omega arith)
-fine (end conditional) r f g = absurd (omega arith)
-fine (end loop) r f g = absurd (omega arith)
-fine (call k) r f g = absurd (omega arith)
-fine return r f g = absurd (omega arith)
+proper (act a) r f g = proper-act 1 a refl refl f g
+proper (test true a) r f g = proper-act 2 a refl refl f g
+proper (test false a) r f g = proper-act 3 a refl refl f g
+proper (jump k) r f g = record { kind-listed = refl; fields-in = rw (leb·zero k, le-leb k 9999 f); small = omega arith }
+proper (label s) r f g = absurd (omega arith)
+proper (goto s) r f g = absurd (omega arith)
+proper (goto2 s t) r f g = absurd (omega arith)
+proper (header conditional v a) r f g = absurd (omega arith)
+proper (header loop v a) r f g = absurd (omega arith)
+proper separator r f g = absurd (omega arith)
+proper (end conditional) r f g = absurd (omega arith)
+proper (end loop) r f g = absurd (omega arith)
+proper (call k) r f g = absurd (omega arith)
+proper return r f g = absurd (omega arith)
 
-all-fine : (os : List Op) → Good 0 os → All Fit os → All Numbered os → All (Fine Base) (map encode os)
-all-fine [] r f g = tt
-all-fine (o ∷ os) r f g = (fine o (r .0) (f .0) (g .0), all-fine os (r .2) (f .1) (g .1))
+all-proper : (os : List Op) → Good 0 os → All Fit os → All Numbered os → All (Proper Base) (map encode os)
+all-proper [] r f g = tt
+all-proper (o ∷ os) r f g = (proper o (r .0) (f .0) (g .0), all-proper os (r .2) (f .1) (g .1))
 
 -- ## The base
 
 rank-at : (os : List Op) (k j : ℕ) (o : Op) → Good k os → getElem? os j ≡ some o → rank o ≤ k
-rank-at [] k j o g e = absurd (let z : _≡_ {A = ℕ} 0 1 = cc in omega arith)
+rank-at [] k j o g e = clash cc
 rank-at (x ∷ os) k zero o g e = let h : x ≡ o = cc in subst (λ (y : Op). rank y ≤ k) h (g .0)
 rank-at (x ∷ os) k (suc j) o g e = rank-at os k j o (g .2) e
 
@@ -129,16 +127,16 @@ base-accepted s n e =
     let a = admitted s n e in
     let L = ops s in
     let c = converted L (a .allowed) in
-    let f = stages-fit L (a .room) (accepted-ops Routine s (a .records .faultless) tt) .fourth in
-    let g = c .numbers (numbered (records s) (no-faults Routine 1 (count s) s (a .records .faultless))) in
+    let f = stages-fit L (a .room) (accepted-ops Routine s (a .fines .faultless) tt) .fourth in
+    let g = c .numbers (numbered (records s) (no-faults Routine 1 (count s) s (a .fines .faultless))) in
     let l = length-map (convert L) encode ∙ converted-length L in
     let r = a .room in
     record {
       kinds = kinds (convert L) (c .good);
-      checked = accepted Base (map encode (convert L)) (omega arith) (all-fine (convert L) (c .good) f g) ∙ ap Accepted l;
+      checked = accepted Base (map encode (convert L)) (omega arith) (all-proper (convert L) (c .good) f g) ∙ ap Accepted l;
       read-back = fit-ops (convert L) f;
     }
   where
     kinds : (os : List Op) → Good 0 os → (i : ℕ) (o : Op) → at os i ≡ some o → (1 ≤ encode o .kind) × (encode o .kind ≤ 4)
-    kinds os g zero o e = absurd (let z : _≡_ {A = ℕ} 0 1 = cc in omega arith)
+    kinds os g zero o e = clash cc
     kinds os g (suc j) o e = kind-of o (rank-at os 0 j o g e)

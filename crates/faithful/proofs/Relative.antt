@@ -1,55 +1,55 @@
 -- Absolute to relative and back: an accepted base becomes an accepted relative base, none of its numbers is far, and back it is the same
 -- records and the same bytes. From the laws of fields of `rules`, record by record.
 use mathlib.Core.Path.{_≡_, refl, sym, ap, _∙_, subst}
-use Prim.Native.Nat.{ℕ, zero, suc, _+_, _-_, _≤_, _<_}
+use Prim.Native.Nat.{_≤_}
 use native.Mathlib.Omega.{arith}
-use mathlib.Core.Bool.{Bool, true, false, cond}
-use mathlib.Core.List.{List, [], _∷_}
-use lib.ListN.{length}
-use lib.Dec.{leb, ltb, leb·zero}
-use borrow.Author.Tests.{leb-true, le-leb, lt-leb, lt-ltb, le-ltb}
+use lib.Dec.{leb·zero}
+use borrow.Author.Tests.{le-leb, lt-leb, lt-ltb, le-ltb}
+use Rattle.rules.specs.Words.{ℕ, zero, suc, _+_, _-_, true, false, List, [], _∷_, length}
 use Rattle.rules.specs.declared.Notation.the-variants.{Base, Relative}
 use Rattle.rules.specs.declared.Verdict.the-variants.{Accepted}
 use Rattle.rules.specs.Record.{Rec, rec, bytesOf, count, records}
-use Rattle.rules.specs.Instruction.{Act, outside, push, pop, compare, conditional, loop, Op, act, test, jump, label, goto, goto2, header, separator, end, call, return, xOf, yOf, actRec, encode, decode}
+use Rattle.rules.specs.Instruction.{Act, outside, push, pop, compare, conditional, loop, Op, act, test, jump, label, goto, goto2, header, separator, end, call, return, xOf, actRec, encode, decode}
 use Rattle.rules.specs.Numbers.{each}
 use Rattle.rules.specs.Checks as Checks
 use Rattle.rules.specs.Checks.{most, fieldFault}
 use Rattle.rules.specs.Table.{rowOf}
-use Rattle.rules.specs.Relative.{relativeJump, relativeAt, toRelative, absoluteAt, toAbsolute, farFrom, far}
+use Rattle.rules.specs.Relative.{relativeAt, toRelative, absoluteAt, toAbsolute, farFrom, far}
 use Rattle.rules.proofs.Computes.{computes}
 use Rattle.rules.proofs.Records.{All, Small, records-length, records-back}
 use Rattle.rules.proofs.SecondLevel.{each-length}
 use Rattle.rules.proofs.Instructions.{FitAct, Fit, fit-small, accepted-back, accepted-fit, no-faults, accepted-bytes}
-use Rattle.faithful.specs.Promises.{RoundTrip, RelativeAndBack}
-use Rattle.faithful.proofs.Places.{in-or-out}
-use Rattle.faithful.proofs.Accepted.{Held, held, Fine, accepted}
+use Rattle.faithful.specs.Promises.{RelativeAndBack}
+use Rattle.faithful.proofs.Inner.Places.{clash, in-or-out}
+use Rattle.faithful.proofs.Accepted.{held, Proper, accepted}
 
 -- ## A record at i
 
 -- At i the record r becomes q.
 record Turned (i : ℕ) (r q : Rec) : Type 0 where
   becomes : relativeAt i r ≡ q
-  listed : Fine Relative q
+  listed : Proper Relative q
   back : absoluteAt i q ≡ r
   near : r .x ≤ 9999
 
 abbrev Turns : ℕ → Rec → Type 0
 Turns i r = (q : Rec) × Turned i r q
 
-number-fine : (k x : ℕ) → fieldFault Relative (rec k x 0) ≡ fieldFault Base (rec 4 x 0) → Checks.listed (rowOf Relative k) ≡ true → x ≤ 9999 → Fine Relative (rec k x 0)
+number-proper : (k x : ℕ) → rowOf Relative k ≡ rowOf Base 4 → x ≤ 9999 → Proper Relative (rec k x 0)
 unfolding computes
-number-fine k x e l h = record { kind-listed = l; fields-in = e ∙ rw (leb·zero x, le-leb x 9999 h); small = omega arith }
+number-proper k x e h = record { kind-listed = ap Checks.listed e; fields-in = rw (e, leb·zero x, le-leb x 9999 h); small = omega arith }
 
 jump-turns : (i k : ℕ) → 1 ≤ i → i ≤ 9999 → k ≤ 9999 → Turns i (rec 4 k 0)
 unfolding computes
-jump-turns i zero l h f = (rec 19 0 0, record { becomes = refl; listed = record { kind-listed = refl; fields-in = refl; small = omega arith }; back = refl; near = f })
+jump-turns i zero l h f =
+    let stop : Proper Relative (rec 19 0 0) = record { kind-listed = refl; fields-in = refl; small = omega arith } in
+    (rec 19 0 0, record { becomes = refl; listed = stop; back = refl; near = f })
 jump-turns i (suc k) l h f = in-or-out (suc k) i
     (λ g. (
       rec 17 (suc k - i) 0,
       record {
         becomes = rw (le-leb i (suc k) g);
-        listed = number-fine 17 (suc k - i) refl refl (omega arith);
+        listed = number-proper 17 (suc k - i) refl (omega arith);
         back = ap (λ (x : ℕ). rec 4 x 0) (omega arith);
         near = f;
       },
@@ -58,14 +58,15 @@ jump-turns i (suc k) l h f = in-or-out (suc k) i
       rec 18 (i - suc k) 0,
       record {
         becomes = rw (lt-leb i (suc k) g);
-        listed = number-fine 18 (i - suc k) refl refl (omega arith);
+        listed = number-proper 18 (i - suc k) refl (omega arith);
         back = rw (lt-ltb (i - suc k) i (omega arith)) (ap (λ (x : ℕ). rec 4 x 0) (omega arith));
         near = f;
       },
     ))
 
 -- A record of kind 1 to 3 stays.
-stays : (i k : ℕ) (a : Act) → relativeAt i (actRec k a) ≡ actRec k a → absoluteAt i (actRec k a) ≡ actRec k a → Fine Relative (actRec k a) → FitAct a → Turns i (actRec k a)
+stays : (i k : ℕ) (a : Act) → relativeAt i (actRec k a) ≡ actRec k a → absoluteAt i (actRec k a) ≡ actRec k a → Proper Relative (actRec k a)
+    → FitAct a → Turns i (actRec k a)
 unfolding xOf
 stays i k a e g f h = (actRec k a, record { becomes = e; listed = f; back = g; near = low a h })
   where
@@ -76,7 +77,7 @@ stays i k a e g f h = (actRec k a, record { becomes = e; listed = f; back = g; n
     low (compare y) h = omega arith
 
 not-there : {A : Type 0} → true ≡ false → A
-not-there e = absurd (let z : _≡_ {A = ℕ} 0 1 = cc in omega arith)
+not-there e = clash cc
 
 op-turns : (i : ℕ) (o : Op) → 1 ≤ i → i ≤ 9999 → fieldFault Base (encode o) ≡ false → Fit o → Turns i (encode o)
 unfolding computes
@@ -105,7 +106,7 @@ record-turns i r l h e =
 -- ## All of them
 
 record All-turned (p : ℕ) (rs : List Rec) : Type 0 where
-  fine : All (Fine Relative) (each relativeAt p rs)
+  fine : All (Proper Relative) (each relativeAt p rs)
   near : farFrom p (each relativeAt p rs) ≡ 0
   same : each absoluteAt p (each relativeAt p rs) ≡ rs
 
@@ -116,12 +117,12 @@ all-turned p (r ∷ rs) l h a =
     let u = record-turns p r l (omega arith) (a .0) .1 in
     let s = all-turned (suc p) rs (omega arith) (omega arith) (a .1) in
     record {
-      fine = (subst (Fine Relative) (sym (u .becomes)) (u .listed), s .fine);
+      fine = (subst (Proper Relative) (sym (u .becomes)) (u .listed), s .fine);
       near = rw (u .becomes, u .back, le-ltb 9999 (r .x) (u .near)) (s .near);
       same = rw (u .becomes, u .back, s .same);
     }
 
-all-small : (rs : List Rec) → All (Fine Relative) rs → All Small rs
+all-small : (rs : List Rec) → All (Proper Relative) rs → All Small rs
 all-small [] h = tt
 all-small (r ∷ rs) h = (h .0 .small, all-small rs (h .1))
 
@@ -129,9 +130,10 @@ pub relative-and-back : RelativeAndBack
 unfolding toRelative toAbsolute far most
 relative-and-back s n e =
     let h = held Base s n e in
+    let f = h .fines in
     let c = h .counted in
-    let l = h .short in
-    let t = all-turned 1 (records s) (omega arith) (omega (arith, records-length s)) (no-faults Base 1 (count s) s (h .faultless)) in
+    let l = f .few in
+    let t = all-turned 1 (records s) (omega arith) (omega (arith, records-length s)) (no-faults Base 1 (count s) s (f .faultless)) in
     let q = toRelative (records s) in
     let k = each-length relativeAt 1 (records s) ∙ records-length s ∙ c in
     let b = records-back q (all-small q (t .fine)) in
@@ -140,5 +142,5 @@ relative-and-back s n e =
       read-back = b;
       near = t .near;
       same = t .same;
-      same-bytes = λ x. ap (λ (rs : List Rec). bytesOf (toAbsolute rs)) b ∙ ap bytesOf (t .same) ∙ accepted-bytes Base s (h .faultless) x (h .even);
+      same-bytes = λ x. ap (λ (rs : List Rec). bytesOf (toAbsolute rs)) b ∙ ap bytesOf (t .same) ∙ accepted-bytes Base s (f .faultless) x (f .even);
     }

@@ -5,13 +5,11 @@ use Prim.Native.Nat.{ℕ, _+_, _*_, _≤_, _<_}
 use mathlib.Core.List.{List}
 use lib.ListN.{take}
 use Rattle.rules.specs.declared.Notation.the-variants.{Base}
-use Rattle.rules.specs.declared.Verdict.{Verdict}
 use Rattle.rules.specs.declared.Verdict.the-variants.{Accepted}
 use Rattle.rules.specs.declared.Refusal.{Refusal}
 use Rattle.rules.specs.declared.Status.{Status}
 use Rattle.rules.specs.declared.Status.the-variants.{Spent}
 use Rattle.rules.specs.declared.Outcome.the-variants.{Stopped, TurnedAway}
-use Rattle.rules.specs.declared.Ran.{Ran}
 use Rattle.rules.specs.Record.{count}
 use Rattle.rules.specs.Answers.{Converted, checkRecords, Call, runRoutine, runBase}
 
