@@ -115,6 +115,9 @@ fn nesting_cases() {
     show_kinds(b"+a{; }{; }{; }", &[8, 10, 10, 11]);
     show_kinds(b"+a{*; }{; *}", &[12, 10, 14]);
     show_kinds(b"a; -a{; +a{*; *}", &[1, 9, 12, 14]);
+}
+
+fn deep_cases() {
     let mut file = [0; 4096];
     fill(&mut file, 0, 512, 8);
     show(b"512 openers", &file, 512);
@@ -127,11 +130,14 @@ fn nesting_cases() {
     show(b"256 openers with 255 ends", &file, 511);
 }
 
-fn length_cases() {
+fn skip_cases() {
     show_kinds(b"empty", &[]);
     show_kinds(b"+a; R##1", &[2, 15]);
     show_kinds(b"a; -a; ##R", &[1, 3, 16]);
     show_kinds(b"R##1; +a", &[15, 2]);
+}
+
+fn long_cases() {
     let mut file = [0; 4096];
     fill(&mut file, 0, 2, 16);
     fill(&mut file, 2, 68, 15);
@@ -191,7 +197,9 @@ fn label_cases() {
 
 fn main() {
     nesting_cases();
-    length_cases();
+    deep_cases();
+    skip_cases();
+    long_cases();
     partner_cases();
     label_cases();
 }
