@@ -1,16 +1,14 @@
 -- Stage 2, calls and returns: what it makes of each record, and so that it is a simulation.
-use mathlib.Core.Path.{_≡_, refl}
-use Prim.Native.Nat.{ℕ, zero, suc, _≤_}
+use Prim.Native.Nat.{_≤_}
 use native.Mathlib.Omega.{arith}
-use mathlib.Core.List.{List}
-use lib.ListN.{length}
-use Rattle.rules.specs.Instruction.{Sort, conditional, loop, Op, act, test, jump, label, goto, goto2, header, separator, end, call, return}
+use Rattle.rules.specs.Words.{ℕ, List, length}
+use Rattle.rules.specs.Instruction.{conditional, loop, Op, act, test, jump, label, goto, goto2, header, separator, end, call, return}
 use Rattle.rules.specs.Numbers.{each}
-use Rattle.rules.specs.SecondLevel.{removed}
 use Rattle.rules.specs.Calls.{uncall, calls}
-use Rattle.faithful.proofs.Places.{place}
-use Rattle.faithful.proofs.Stage as Stage
-use Rattle.faithful.proofs.Stage.{rank, Good, Turns, keeps, leaps, forks, returns, Staged, staged}
+use Rattle.faithful.proofs.Inner.Places.{place}
+use Rattle.faithful.proofs.Inner.Turns as Turns
+use Rattle.faithful.proofs.Inner.Turns.{rank, Good, Turns, keeps, returns}
+use Rattle.faithful.proofs.Inner.Stage.{Staged, staged}
 
 turned : (L : List Op) (i : ℕ) (o : Op) → rank o ≤ 3 → Turns L 2 i o (uncall (length L) i o)
 unfolding uncall
@@ -25,7 +23,7 @@ turned L i (header loop v a) r = keeps tt
 turned L i separator r = keeps tt
 turned L i (end conditional) r = keeps tt
 turned L i (end loop) r = keeps tt
-turned L i (call k) r = Stage.calls
+turned L i (call k) r = Turns.calls
 turned L i return r = returns (omega arith)
 
 pub calls-staged : (L : List Op) → Good 3 L → Staged 2 L (calls L) (place (each (uncall (length L)) 1 L))

@@ -1,30 +1,30 @@
 -- Demand 3: the four simulations together, what their steps cost, and from steps to runs.
-use mathlib.Core.Path.{_≡_, refl, sym, ap, _∙_, subst}
-use Prim.Native.Nat.{ℕ, zero, suc, _+_, _*_, _≤_, _<_, zero-le}
+use mathlib.Core.Path.{_≡_, refl, ap, _∙_, subst}
+use Prim.Native.Nat.{_≤_, _<_, zero-le}
 use native.Mathlib.Nat.{mul-suc}
 use native.Mathlib.Omega.{arith}
-use mathlib.Core.Bool.{Bool, true, false, cond}
-use mathlib.Core.Option.{Option, none, some}
-use mathlib.Core.List.{List, [], _∷_}
-use lib.ListN.{length, getElem?}
+use Rattle.rules.specs.Words.{ℕ, zero, suc, _+_, _*_, Bool, true, false, cond, Option, none, some, List, [], _∷_, length, getElem?}
 use Rattle.rules.specs.declared.Status.{Status}
-use Rattle.rules.specs.Instruction.{Op, act, test, jump, label, goto, goto2, header, separator, end, call, return, conditional, loop}
+use Rattle.rules.specs.Instruction.{Op, act, test, jump, label, goto, goto2, header, separator, end, call, return, conditional, loop, ops}
 use Rattle.rules.specs.Numbers.{at, each}
 use Rattle.rules.specs.Skip.{skip}
 use Rattle.rules.specs.Labels.{labels}
 use Rattle.rules.specs.Calls.{uncall, calls}
 use Rattle.rules.specs.Loops.{unloop, loops}
-use Rattle.rules.specs.Conditionals.{uncond, conditionals}
+use Rattle.rules.specs.Conditionals.{uncond}
 use Rattle.rules.specs.Convert.{convert}
 use Rattle.rules.specs.Stack.{fresh, top, equals}
 use Rattle.rules.specs.Step.{Mem, Reply, did, stops, perform, Out, go, halt, agree, step}
-use Rattle.rules.specs.Run.{andThen, after, why, startOf, freshMem, Run, stopped, oneMore, onward, run, runs}
+use Rattle.rules.specs.Run.{andThen, after, why, startOf, freshMem, Run, oneMore, onward, run, runs}
 use Rattle.rules.specs.Cases.{there-and-back}
+use Rattle.rules.proofs.Records.{ops-length}
 use Rattle.rules.proofs.Computes.{computes}
-use Rattle.faithful.specs.Promises.{Follows, Demand3, RunFollows, Demand3Run}
-use Rattle.faithful.proofs.Places.{place}
-use Rattle.faithful.proofs.Simulation.{forkCost, linkCost, cost, costOf, costAt, Way, stay, on, Sim, both, lift, at-in}
-use Rattle.faithful.proofs.Stage.{rank, Good, Staged}
+use Rattle.faithful.specs.Promises.{Follows, Demand3, RunFollows, Demand3Run, Demand3File}
+use Rattle.faithful.proofs.Accepted.{admitted}
+use Rattle.faithful.proofs.Inner.Places.{clash, place}
+use Rattle.faithful.proofs.Inner.Simulation.{forkCost, linkCost, cost, costOf, costAt, Way, stay, on, Sim, both, lift, go-halt, at-in}
+use Rattle.faithful.proofs.Inner.Turns.{rank, Good}
+use Rattle.faithful.proofs.Inner.Stage.{Staged}
 use Rattle.faithful.proofs.Labels.{labels-staged}
 use Rattle.faithful.proofs.Calls.{calls-staged}
 use Rattle.faithful.proofs.Loops.{loops-staged}
@@ -41,7 +41,7 @@ placeOf L k =
     place (each (uncond C) 1 C) (place (each (unloop B) 1 B) (place (each (uncall (length A)) 1 A) k))
 
 then : {k k′ : ℕ} {L M N : List Op} {P Q : ℕ → ℕ} → Staged k L M P → Staged k′ M N Q → Staged k′ L N (λ i. Q (P i))
-then {Q} s t = record { sim = both (s .sim) (t .sim); good = t .good; starts = t .starts ∙ ap Q (s .starts) }
+then {Q} s t = record { sim = both (s .sim) (t .sim); good = t .good; starts = t .starts ∙ ap Q (s .starts); numbers = λ h. t .numbers (s .numbers h) }
 
 pub converted : (L : List Op) → skip L ≡ 0 → Staged 0 L (convert L) (placeOf L)
 unfolding convert placeOf
@@ -132,14 +132,15 @@ costed L zero i m j m₁ e =
     record { total = 0; way = subst (λ (x : ℕ). Way L i m x m₁ 0) e₀ (subst (λ (y : Mem). Way L i m i y 0) e₁ (stay refl)); low = omega arith; high = zero-le }
 costed L (suc s) i m j m₁ e = by (step L i m) refl e (λ k m₂ h. costed L s k m₂ j m₁ h)
   where
-    by : (o : Out) → step L i m ≡ o → andThen (λ k m₂. after L s k m₂) o ≡ go j m₁ → ((k : ℕ) (m₂ : Mem) → after L s k m₂ ≡ go j m₁ → Costed L s k m₂ j m₁) → Costed L (suc s) i m j m₁
+    by : (o : Out) → step L i m ≡ o → andThen (λ k m₂. after L s k m₂) o ≡ go j m₁
+        → ((k : ℕ) (m₂ : Mem) → after L s k m₂ ≡ go j m₁ → Costed L s k m₂ j m₁) → Costed L (suc s) i m j m₁
     by (go k m₂) a b ih =
         let r = ih k m₂ b in
         let c = step-cost L i m in
         let l = r .low in
         let h = r .high in
         record { total = costAt L i m + r .total; way = on a (r .way) refl; low = omega arith; high = omega (arith, mul-suc (2 * length L + 1) s) }
-    by (halt w) a b ih = absurd (let z : _≡_ {A = ℕ} 0 1 = cc in omega arith)
+    by (halt w) a b ih = clash cc
 
 way-after : (L : List Op) → ((i : ℕ) (m : Mem) → costAt L i m ≡ 1) → {i : ℕ} {m : Mem} {j : ℕ} {m₁ : Mem} {c : ℕ} → Way L i m j m₁ c → after L c i m ≡ go j m₁
 unfolding after andThen
@@ -166,21 +167,20 @@ same-status {L} {L′} {P} S i m = by (step L i m) refl
 
 pub demand3 : Demand3
 demand3 L a replies log s i m e =
-    let w = costed L s (startOf L) (freshMem replies log) i m e in
+    let m₀ = freshMem replies log in
+    let w = costed L s (startOf L) m₀ i m e in
     let c = converted L a in
+    let flat = base-cost (convert L) (c .good) in
     record {
       count = w .total;
       place = placeOf L i;
       at-least = w .low;
       at-most = w .high;
-      same = ap (λ (p : ℕ). after (convert L) (w .total) p (freshMem replies log)) (c .starts) ∙ way-after (convert L) (base-cost (convert L) (c .good)) (lift (c .sim) (w .way));
+      same = ap (λ (p : ℕ). after (convert L) (w .total) p m₀) (c .starts) ∙ way-after (convert L) flat (lift (c .sim) (w .way));
       alike = same-status (c .sim) i m;
     }
 
 -- ## Runs that stop with budget left over
-
-go-halt : {i : ℕ} {m : Mem} {w : Status} → halt w ≡ go i m → ⊥
-go-halt e = let z : _≡_ {A = ℕ} 0 1 = cc in omega arith
 
 -- Steps that end in a stop are a run ..
 pub run-of : (L : List Op) (c b i : ℕ) (m : Mem) (j : ℕ) (m₁ : Mem) (w : Status) → after L c i m ≡ go j m₁ → step L j m₁ ≡ halt w → c < b
@@ -193,7 +193,8 @@ run-of L zero (suc b) i m j m₁ w e h g =
     rw (e₀, e₁) (ap (onward j m₁ (λ x y. run L b x y)) h)
 run-of L (suc c) (suc b) i m j m₁ w e h g = by (step L i m) e (λ k m₂ e₁. run-of L c b k m₂ j m₁ w e₁ h (omega arith))
   where
-    by : (o : Out) → andThen (λ k m₂. after L c k m₂) o ≡ go j m₁ → ((k : ℕ) (m₂ : Mem) → after L c k m₂ ≡ go j m₁ → run L b k m₂ ≡ record { position = j; mem = m₁; steps = c; status = w })
+    by : (o : Out) → andThen (λ k m₂. after L c k m₂) o ≡ go j m₁
+        → ((k : ℕ) (m₂ : Mem) → after L c k m₂ ≡ go j m₁ → run L b k m₂ ≡ record { position = j; mem = m₁; steps = c; status = w })
         → onward i m (λ x y. run L b x y) o ≡ record { position = j; mem = m₁; steps = suc c; status = w }
     by (go k m₂) a ih = ap oneMore (ih k m₂ a)
     by (halt s) a ih = absurd (go-halt a)
@@ -214,7 +215,7 @@ run-is L (suc b) i m g = by (step L i m) refl (λ k m₂. run-is L b k m₂) g
 
 stop-halt : (o : Out) (w : Status) → why o ≡ some w → o ≡ halt w
 unfolding why
-stop-halt (go i m) w e = absurd (let z : _≡_ {A = ℕ} 0 1 = cc in omega arith)
+stop-halt (go i m) w e = clash cc
 stop-halt (halt v) w e = let z : v ≡ w = cc in ap halt z
 
 pub demand3-run : Demand3Run
@@ -223,20 +224,32 @@ demand3-run L a replies log b h =
     let r = runs L replies log b in
     let k = run-is L b (startOf L) (freshMem replies log) h in
     let d = demand3 L a replies log (r .steps) (r .position) (r .mem) (k .0) in
+    let stop = stop-halt _ _ (d .alike ∙ ap why (k .1)) in
     record {
       count = d .count;
       place = d .place;
       at-least = d .at-least;
       at-most = d .at-most;
-      same = λ larger x. run-of (convert L) (d .count) larger (startOf (convert L)) (freshMem replies log) (d .place) (r .mem) (r .status) (d .same) (stop-halt _ _ (d .alike ∙ ap why (k .1))) x;
+      same = λ larger x. run-of (convert L) (d .count) larger (startOf (convert L)) (freshMem replies log) (d .place) (r .mem) (r .status) (d .same) stop x;
     }
+
+-- ## Of an accepted file
+
+pub demand3-file : Demand3File
+demand3-file f n e replies log =
+    let a = admitted f n e in
+    let l : length (ops f) ≡ n = ops-length f ∙ a .counted in (
+      λ s i m g. subst (λ (k : ℕ). Follows k (ops f) replies log s i m) l (demand3 (ops f) (a .allowed) replies log s i m g),
+      λ b h. subst (λ (k : ℕ). RunFollows k (ops f) replies log (runs (ops f) replies log b)) l (demand3-run (ops f) (a .allowed) replies log b h),
+    )
 
 -- ## At work: the 5 steps of the paper's 36-record case are 14 of its base
 
 abbrev pub start36 : Mem
 start36 = freshMem (1 ∷ 1 ∷ []) (7 ∷ 7 ∷ 7 ∷ 7 ∷ 7 ∷ [])
 
-pub five : after there-and-back 5 (startOf there-and-back) start36 ≡ go 0 (record { stack = fresh; replies = 1 ∷ 1 ∷ []; used = 2; log = 2 ∷ 0 ∷ 1 ∷ 0 ∷ 7 ∷ []; logged = 2 })
+pub five : after there-and-back 5 (startOf there-and-back) start36
+    ≡ go 0 (record { stack = fresh; replies = 1 ∷ 1 ∷ []; used = 2; log = 2 ∷ 0 ∷ 1 ∷ 0 ∷ 7 ∷ []; logged = 2 })
 unfolding computes
 five = refl
 

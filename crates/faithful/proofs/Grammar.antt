@@ -1,20 +1,20 @@
 -- The grammar and the scan agree: refusal 5 is absent exactly if the routine is one body, and its place is the one that the paper
 -- words. Both ways by reading: what is read leaves items open, and between their headers and separators stand bodies.
-use mathlib.Core.Path.{_≡_, refl, sym, ap, _∙_, subst}
-use mathlib.Core.Logic.{_⊎_, inl, inr, _↔_}
-use Prim.Native.Nat.{ℕ, zero, suc, _+_, _≤_, _<_}
+use mathlib.Core.Path.{_≡_, refl, sym, ap, _∙_, subst, subst₂}
+use mathlib.Core.Logic.{_⊎_, inl, inr}
+use Prim.Native.Nat.{_≤_}
 use native.Mathlib.Omega.{arith}
-use mathlib.Core.Bool.{Bool, true, false}
-use mathlib.Core.Option.{Option, none, some}
-use mathlib.Core.List.{List, [], _∷_, _++_, append-assoc, append-nil}
-use lib.ListN.{length, length-append}
+use mathlib.Core.List.{append-assoc, append-nil}
+use lib.ListN.{length-append}
 use lib.Seq.{append-snoc}
-use Rattle.rules.specs.Instruction.{Act, Sort, conditional, loop, Op, act, test, jump, label, goto, goto2, header, separator, end, call, return}
-use Rattle.rules.specs.Nesting.{Bracket, alone, bracket, Item, item, parted, closed, read, lowest, goOn, scan, nesting}
+use Rattle.rules.specs.Words.{ℕ, suc, _+_, Bool, true, false, List, [], _∷_, _++_, length}
+use Rattle.rules.specs.Instruction.{Sort, conditional, loop, Op, act, test, jump, label, goto, goto2, header, separator, end, call, return}
+use Rattle.rules.specs.Nesting.{Bracket, bracket, Item, item, parted, closed, read, lowest, goOn, scan, nesting}
 use Rattle.rules.specs.WellBuilt.{Body, nothing, single, looping, oneArm, twoArms}
-use Rattle.faithful.specs.Promises.{IsOpen, Leaves, none-open, in-item, in-second, Misfit, stray-separator, second-separator, separator-in-loop, stray-end, loop-end-in-conditional, end-in-loop, Place5, misfit, unclosed, Grammar}
-use Rattle.faithful.proofs.Places.{over, over-length}
-use Rattle.faithful.proofs.Reading.{Reader, body-over}
+use Rattle.faithful.specs.Place.{Leaves, none-open, in-item, in-second, IsOpen, Misfit, stray-separator, second-separator, separator-in-loop, stray-end, loop-end-in-conditional, end-in-loop, Place5, misfit, unclosed}
+use Rattle.faithful.specs.Promises.{Grammar}
+use Rattle.faithful.proofs.Inner.Places.{over, over-length}
+use Rattle.faithful.proofs.Inner.Reading.{Reader, body-over}
 
 -- ## Bodies and what is left open can be read on
 
@@ -38,7 +38,8 @@ leaves-end (in-item {xs = x} {ys = z} {b = b} v a t y) = rw (append-assoc x (hea
     whole conditional y = oneArm y nothing
     whole loop y = looping y nothing
 leaves-end (in-second {ys = z} (in-item {xs = x} {ys = u} v a t y) w) =
-    rw (append-assoc (x ++ (header conditional v a ∷ u)) (separator ∷ z) (end conditional ∷ []), append-assoc x (header conditional v a ∷ u) (separator ∷ (z ++ (end conditional ∷ []))))
+    let o = header conditional v a in
+    rw (append-assoc (x ++ (o ∷ u)) (separator ∷ z) (end conditional ∷ []), append-assoc x (o ∷ u) (separator ∷ (z ++ (end conditional ∷ []))))
     (leaves-on t (twoArms y w nothing))
 
 -- ## The lowest opener
@@ -61,7 +62,9 @@ lowest-least (in-item {xs = xs} {s = []} v a t y) = (inl refl, least)
     least : (k : ℕ) → (k ≡ suc (length xs)) ⊎ ⊥ → suc (length xs) ≤ k
     least k (inl e) = omega arith
     least k (inr o) = absurd o
-lowest-least (in-item {xs = xs} {s = z ∷ s} v a t y) = let h = lowest-least t in (inr (h .0), least (lowest (z ∷ s)) (open-in t (lowest (z ∷ s)) (h .0) .1) (h .1))
+lowest-least (in-item {xs = xs} {s = z ∷ s} v a t y) =
+    let h = lowest-least t in
+    (inr (h .0), least (lowest (z ∷ s)) (open-in t (lowest (z ∷ s)) (h .0) .1) (h .1))
   where
     least : (n : ℕ) → n ≤ length xs → ((k : ℕ) → IsOpen k (z ∷ s) → n ≤ k) → (k : ℕ) → (k ≡ suc (length xs)) ⊎ IsOpen k (z ∷ s) → n ≤ k
     least n g f k (inl e) = omega arith
@@ -99,11 +102,13 @@ scan-on : {xs : List Op} {s : List Item} → Leaves xs s → (os : List Op) → 
 unfolding nesting scan goOn read bracket parted
 scan-on (none-open {xs = x} y) os = scan-over y [] 0 os ∙ ap (λ (i : ℕ). scan (suc i) [] os) (omega arith)
 scan-on (in-item {xs = x} {ys = z} {b = b} {s = s} v a t y) os =
-    ap nesting (append-assoc x (header b v a ∷ z) os) ∙ scan-on t (header b v a ∷ (z ++ os)) ∙ scan-over y (item b false (suc (length x)) ∷ s) (suc (length x)) os
-    ∙ ap (λ (i : ℕ). scan (suc i) (item b false (suc (length x)) ∷ s) os) (omega (arith, length-append x (header b v a ∷ z)))
+    let s₁ = item b false (suc (length x)) ∷ s in
+    ap nesting (append-assoc x (header b v a ∷ z) os) ∙ scan-on t (header b v a ∷ (z ++ os)) ∙ scan-over y s₁ (suc (length x)) os
+    ∙ ap (λ (i : ℕ). scan (suc i) s₁ os) (omega (arith, length-append x (header b v a ∷ z)))
 scan-on (in-second {xs = x} {ys = z} {h = h} {s = s} t y) os =
-    ap nesting (append-assoc x (separator ∷ z) os) ∙ scan-on t (separator ∷ (z ++ os)) ∙ scan-over y (item conditional true h ∷ s) (suc (length x)) os
-    ∙ ap (λ (i : ℕ). scan (suc i) (item conditional true h ∷ s) os) (omega (arith, length-append x (separator ∷ z)))
+    let s₁ = item conditional true h ∷ s in
+    ap nesting (append-assoc x (separator ∷ z) os) ∙ scan-on t (separator ∷ (z ++ os)) ∙ scan-over y s₁ (suc (length x)) os
+    ∙ ap (λ (i : ℕ). scan (suc i) s₁ os) (omega (arith, length-append x (separator ∷ z)))
 
 scan-all : {xs : List Op} {s : List Item} → Leaves xs s → nesting xs ≡ lowest s
 unfolding scan
@@ -129,10 +134,12 @@ placed (unclosed {s = x ∷ s} {h = h} t o l) = let g = lowest-least t in scan-a
 abbrev Judged : List Op → ℕ → Type 0
 Judged L p = ((p ≡ 0) × Body L) ⊎ Place5 L p
 
-on : (xs : List Op) (o : Op) (os : List Op) (s : List Item) → Judged ((xs ++ (o ∷ [])) ++ os) (scan (suc (length (xs ++ (o ∷ [])))) s os) → Judged (xs ++ (o ∷ os)) (scan (suc (suc (length xs))) s os)
+-- One record more is read.
+on : (xs : List Op) (o : Op) (os : List Op) (s : List Item) → Judged ((xs ++ (o ∷ [])) ++ os) (scan (suc (length (xs ++ (o ∷ [])))) s os)
+    → Judged (xs ++ (o ∷ os)) (scan (suc (suc (length xs))) s os)
 on xs o os s j =
     let e : length (xs ++ (o ∷ [])) ≡ suc (length xs) = length-append xs (o ∷ []) ∙ omega arith in
-    subst (λ (l : List Op). Judged l (scan (suc (suc (length xs))) s os)) (append-snoc xs o os) (subst (λ (n : ℕ). Judged ((xs ++ (o ∷ [])) ++ os) (scan (suc n) s os)) e j)
+    subst₂ (λ (l : List Op) (n : ℕ). Judged l (scan (suc n) s os)) (append-snoc xs o os) e j
 
 judge : (os xs : List Op) (s : List Item) → Leaves xs s → Judged (xs ++ os) (scan (suc (length xs)) s os)
 unfolding scan goOn read bracket parted closed lowest
@@ -150,7 +157,8 @@ judge (header b v a ∷ os) xs s t = on xs (header b v a) os _ (judge os (xs ++ 
 judge (separator ∷ os) xs [] t = inr (misfit os refl t stray-separator)
 judge (separator ∷ os) xs (item loop w h ∷ s) t = inr (misfit os refl t separator-in-loop)
 judge (separator ∷ os) xs (item conditional true h ∷ s) t = inr (misfit os refl t second-separator)
-judge (separator ∷ os) xs (item conditional false h ∷ s) t = on xs separator os _ (judge os (xs ++ (separator ∷ [])) (item conditional true h ∷ s) (in-second t nothing))
+judge (separator ∷ os) xs (item conditional false h ∷ s) t =
+    on xs separator os _ (judge os (xs ++ (separator ∷ [])) (item conditional true h ∷ s) (in-second t nothing))
 judge (end b ∷ os) xs [] t = inr (misfit os refl t stray-end)
 judge (end conditional ∷ os) xs (item conditional w h ∷ s) t = on xs (end conditional) os s (judge os (xs ++ (end conditional ∷ [])) s (leaves-end t))
 judge (end conditional ∷ os) xs (item loop w h ∷ s) t = inr (misfit os refl t end-in-loop)

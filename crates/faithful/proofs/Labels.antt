@@ -1,35 +1,29 @@
 -- Stage 1, labels: the records stay where they are and do what they did. And where refusal 6 is absent, what it leaves is fit for the
 -- stages that follow.
 use mathlib.Core.Path.{_≡_, refl, sym, ap, _∙_, subst, fun-ext}
-use Prim.Native.Nat.{ℕ, zero, suc, _+_, _≤_}
-use native.Mathlib.Numerals.{add-one}
+use Prim.Native.Nat.{_≤_}
 use native.Mathlib.Omega.{arith}
-use mathlib.Core.Bool.{Bool, true, false, cond, _&&_}
-use mathlib.Core.Option.{Option, none, some}
-use mathlib.Core.List.{List, [], _∷_}
-use lib.ListN.{length, drop, getD}
-use lib.Dec.{eqb}
+use Rattle.rules.specs.Words.{ℕ, zero, suc, _+_, Bool, true, false, cond, _&&_, Option, none, some, List, [], _∷_, length, drop, getElem?}
 use Rattle.rules.specs.Instruction.{Sort, conditional, loop, Op, act, test, jump, label, goto, goto2, header, separator, end, call, return}
 use Rattle.rules.specs.Numbers.{at, each, moveTo}
-use Rattle.rules.specs.Nesting.{Bracket, bracket}
+use Rattle.rules.specs.Nesting.{bracket}
 use Rattle.rules.specs.Skip.{adding, plainTest, skipFrom, skip}
-use Rattle.rules.specs.Partners.{Role, roleOf, role, endAt, endFrom, separatorAt, separatorFrom, endOf, separatorOf, opening, isHeader, headerUpTo, headerOf}
+use Rattle.rules.specs.Partners.{roleOf, role, endAt, endFrom, separatorAt, separatorFrom, endOf, separatorOf, opening, isHeader, headerUpTo, headerOf}
 use Rattle.rules.specs.Conditionals.{itsSeparator}
-use Rattle.rules.specs.Labels.{target, target2, unlabel, labels}
-use Rattle.rules.specs.Step.{Deed, leap, ask, deed, Mem, Out, does, stepAt, step}
+use Rattle.rules.specs.Labels.{unlabel, labels}
+use Rattle.rules.specs.Step.{deed, Mem, stepAt, step}
 use Rattle.rules.specs.Run.{startOf}
-use Rattle.rules.proofs.Records.{at-getD, at-none, at-zero}
-use Rattle.rules.proofs.SecondLevel.{each-getD}
+use Rattle.rules.proofs.Records.{All}
 use Rattle.rules.proofs.Length.{labels-length}
 use Rattle.rules.proofs.Computes.{computes}
-use Rattle.faithful.proofs.Places.{in-or-out}
-use Rattle.faithful.proofs.Simulation.{cost, costOf, costAt, Sim, stay, first}
-use Rattle.faithful.proofs.Stage.{rank, Calm, Good, Staged}
+use Rattle.faithful.proofs.Inner.Simulation.{cost, costOf, costAt, Sim, stay, first}
+use Rattle.faithful.proofs.Inner.Turns.{rank, Calm, Good, Numbered}
+use Rattle.faithful.proofs.Inner.Stage.{Staged}
 
 module _ (L : List Op) where
   -- What is alike of labels, gotos and jumps is alike of a record and what it becomes.
-  unlabel-alike : {A : Type 0} (h : Op → A) → ((x s : ℕ) → h (jump x) ≡ h (label s)) → ((x s : ℕ) → h (jump x) ≡ h (goto s)) → ((x s t : ℕ) → h (jump x) ≡ h (goto2 s t))
-      → (i : ℕ) (o : Op) → h (unlabel L i o) ≡ h o
+  unlabel-alike {ℓ} : {A : Type ℓ} (h : Op → A) → ((x s : ℕ) → h (jump x) ≡ h (label s)) → ((x s : ℕ) → h (jump x) ≡ h (goto s))
+      → ((x s t : ℕ) → h (jump x) ≡ h (goto2 s t)) → (i : ℕ) (o : Op) → h (unlabel L i o) ≡ h o
   unfolding unlabel
   unlabel-alike h e f g i (act a) = refl
   unlabel-alike h e f g i (test v a) = refl
@@ -47,12 +41,18 @@ module _ (L : List Op) where
   unfolding role bracket
   role-alike b i o = ap (roleOf b) (unlabel-alike bracket (λ x s. refl) (λ x s. refl) (λ x s t. refl) i o)
 
-  at-alike : {A : Type 0} (F G : Option Op → A) (i : ℕ) → F none ≡ G none → ((o : Op) → F (some (unlabel L i o)) ≡ G (some o)) → F (at (labels L) i) ≡ G (at L i)
-  unfolding labels
-  at-alike F G zero e h = ap F (at-zero (labels L)) ∙ e ∙ ap G (sym (at-zero L))
-  at-alike F G (suc j) e h = in-or-out (length L) (suc j)
-      (λ l. ap F (at-getD (labels L) j (jump 0) (omega (arith, labels-length L)) ∙ ap some (each-getD (unlabel L) 1 j L (jump 0) (jump 0) l ∙ ap (λ (i : ℕ). unlabel L i (getD L j (jump 0))) (add-one j))) ∙ h (getD L j (jump 0)) ∙ ap G (sym (at-getD L j (jump 0) l)))
-      (λ l. ap F (at-none (labels L) (suc j) (omega (arith, labels-length L))) ∙ e ∙ ap G (sym (at-none L (suc j) l)))
+  -- What is alike of each record and what it becomes is alike of whatever stands at i.
+  at-alike : {A : Type 0} (F G : Option Op → A) (i : ℕ) → F none ≡ G none → ((o : Op) → F (some (unlabel L i o)) ≡ G (some o))
+      → F (at (labels L) i) ≡ G (at L i)
+  unfolding labels at each
+  at-alike F G zero e h = e
+  at-alike {A} F G (suc j) e h = by 1 L j (λ o. subst (λ (i : ℕ). F (some (unlabel L i o)) ≡ G (some o)) (omega arith) (h o))
+    where
+      by : (p : ℕ) (os : List Op) (j : ℕ) → ((o : Op) → F (some (unlabel L (j + p) o)) ≡ G (some o))
+          → F (getElem? (each (unlabel L) p os) j) ≡ G (getElem? os j)
+      by p [] j h = e
+      by p (o ∷ os) zero h = subst (λ (i : ℕ). F (some (unlabel L i o)) ≡ G (some o)) (omega arith) (h o)
+      by p (o ∷ os) (suc j) h = by (suc p) os j (λ x. subst (λ (i : ℕ). F (some (unlabel L i x)) ≡ G (some x)) (omega arith) (h x))
 
   -- ## Partners stay
 
@@ -64,7 +64,8 @@ module _ (L : List Op) where
   separator-alike : (d k p : ℕ) (os : List Op) → separatorFrom d k (each (unlabel L) p os) ≡ separatorFrom d k os
   unfolding separatorFrom each
   separator-alike d k p [] = refl
-  separator-alike d k p (o ∷ os) = rw (role-alike conditional p o) (ap (separatorAt (role conditional o) d k) (fun-ext (λ e. separator-alike e (suc k) (suc p) os)))
+  separator-alike d k p (o ∷ os) =
+      rw (role-alike conditional p o) (ap (separatorAt (role conditional o) d k) (fun-ext (λ e. separator-alike e (suc k) (suc p) os)))
 
   drop-each : (i p : ℕ) (os : List Op) → drop i (each (unlabel L) p os) ≡ each (unlabel L) (i + p) (drop i os)
   unfolding each
@@ -164,11 +165,19 @@ module _ (L : List Op) where
   good-from p (o ∷ []) e = (low (suc p) o, calm-end (plainTest (unlabel L (suc p) o)), tt)
   good-from p (o ∷ (x ∷ os)) e = by (plainTest o && adding x) refl e (good-from (suc p) (x ∷ os))
     where
-      by : (b : Bool) → plainTest o && adding x ≡ b → cond b (suc p) (skipFrom (suc (suc p)) (x ∷ os)) ≡ 0 → (skipFrom (suc (suc p)) (x ∷ os) ≡ 0 → Good 3 (each (unlabel L) (suc (suc p)) (x ∷ os)))
-          → Good 3 (each (unlabel L) (suc p) (o ∷ (x ∷ os)))
+      by : (b : Bool) → plainTest o && adding x ≡ b → cond b (suc p) (skipFrom (suc (suc p)) (x ∷ os)) ≡ 0
+          → (skipFrom (suc (suc p)) (x ∷ os) ≡ 0 → Good 3 (each (unlabel L) (suc (suc p)) (x ∷ os))) → Good 3 (each (unlabel L) (suc p) (o ∷ (x ∷ os)))
       by true q e k = absurd (omega arith)
       by false q e k = (low (suc p) o, rw (plain-alike (suc p) o) (calm-next (plainTest o) (suc (suc p)) x os q), k e)
 
+  numbered : (p : ℕ) (os : List Op) → All Numbered os → All Numbered (each (unlabel L) p os)
+  unfolding each
+  numbered p [] h = tt
+  numbered p (o ∷ os) h = (
+    subst (λ (X : Type 0). X) (sym (unlabel-alike Numbered (λ x s. refl) (λ x s. refl) (λ x s t. refl) p o)) (h .0),
+    numbered (suc p) os (h .1),
+  )
+
   pub labels-staged : skip L ≡ 0 → Staged 3 L (labels L) (λ i. i)
   unfolding skip labels startOf
-  labels-staged e = record { sim = sim; good = good-from 0 L e; starts = ap (λ (n : ℕ). moveTo n 1) (labels-length L) }
+  labels-staged e = record { sim = sim; good = good-from 0 L e; starts = ap (λ (n : ℕ). moveTo n 1) (labels-length L); numbers = numbered 1 L }

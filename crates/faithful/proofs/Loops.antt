@@ -1,18 +1,18 @@
 -- Stage 3, loops: what it makes of each record, and so that it is a simulation.
 use mathlib.Core.Path.{_≡_, refl}
-use Prim.Native.Nat.{ℕ, zero, suc, _≤_}
+use Prim.Native.Nat.{_≤_}
 use native.Mathlib.Omega.{arith}
-use mathlib.Core.List.{List}
-use lib.ListN.{length}
+use Rattle.rules.specs.Words.{ℕ, List}
 use Rattle.rules.specs.Instruction.{Sort, conditional, loop, Op, act, test, jump, label, goto, goto2, header, separator, end, call, return}
 use Rattle.rules.specs.Numbers.{each}
 use Rattle.rules.specs.Nesting.{bracket}
 use Rattle.rules.specs.Partners.{other, roleOf, role}
 use Rattle.rules.specs.Loops.{unloop, loops}
 use Rattle.rules.specs.Step.{deed}
-use Rattle.faithful.proofs.Places.{place}
-use Rattle.faithful.proofs.Simulation.{cost}
-use Rattle.faithful.proofs.Stage.{sortRank, rank, Good, Turns, keeps, leaps, forks, Staged, staged}
+use Rattle.faithful.proofs.Inner.Places.{place}
+use Rattle.faithful.proofs.Inner.Simulation.{cost}
+use Rattle.faithful.proofs.Inner.Turns.{sortRank, rank, Good, Turns, keeps, leaps, forks}
+use Rattle.faithful.proofs.Inner.Stage.{Staged, staged}
 
 -- The end of a loop is nothing to conditionals.
 apart : (b : Sort) → sortRank b ≤ 1 → role b (end loop) ≡ other

@@ -1,23 +1,23 @@
 -- Wherever an item of the grammar stands, its header, separator and end are partners; and in a body every record belongs to an item.
 -- From the reading of bodies.
 use mathlib.Core.Path.{_≡_, refl, sym, ap, _∙_, subst}
-use Prim.Native.Nat.{ℕ, zero, suc, _+_, _≤_, _<_}
 use native.Mathlib.Nat.{zero-add}
 use native.Mathlib.Numerals.{add-one}
 use native.Mathlib.Omega.{arith}
-use mathlib.Core.Bool.{Bool, true, false}
-use mathlib.Core.Option.{Option, none, some}
-use mathlib.Core.List.{List, [], _∷_, _++_, append-assoc, append-nil}
-use lib.ListN.{length, drop, getElem?}
-use Rattle.rules.specs.Instruction.{Act, Sort, conditional, loop, Op, header, separator, end}
+use mathlib.Core.List.{append-assoc, append-nil}
+use Rattle.rules.specs.Words.{ℕ, zero, suc, _+_, Bool, some, List, [], _∷_, _++_, drop, getElem?}
+use Rattle.rules.specs.Instruction.{Act, Sort, conditional, loop, Op, header, separator, end, ops}
 use Rattle.rules.specs.Numbers.{at}
-use Rattle.rules.specs.Nesting.{alone, bracket}
+use Rattle.rules.specs.Nesting.{bracket}
 use Rattle.rules.specs.WellBuilt.{Body, nothing, single, looping, oneArm, twoArms}
-use Rattle.rules.specs.Partners.{Role, opens, parts, ends, roleOf, role, endAt, separatorAt, endOf, separatorOf, headerOf}
+use Rattle.rules.specs.Partners.{Role, opens, ends, roleOf, role, endAt, separatorAt, endOf, headerOf}
 use Rattle.rules.proofs.Partners.{backAt, back}
-use Rattle.faithful.specs.Promises.{Stands, loop-item, one-arm, two-arms, Partnered, Belongs, by-itself, as-header, as-separator, as-end, Partners}
-use Rattle.faithful.proofs.Places.{over, over-suc, over-length}
-use Rattle.faithful.proofs.Reading.{From, whole, next, from-drop, drop-at, from-at, from-of, from-over, seek, seeks-end, seeks-separator, seek-body, end-of, separator-of, back-one, back-body, header-of}
+use Rattle.faithful.specs.Items.{Stands, loop-item, one-arm, two-arms, Partnered, Belongs, by-itself, as-header, as-separator, as-end}
+use Rattle.faithful.specs.Promises.{Partners, PartnersFile}
+use Rattle.faithful.proofs.Accepted.{admitted}
+use Rattle.faithful.proofs.Grammar.{grammar}
+use Rattle.faithful.proofs.Inner.Places.{clash, over, over-suc, over-length}
+use Rattle.faithful.proofs.Inner.Reading.{From, whole, next, from-drop, drop-at, from-of, from-over, seek, seeks-end, seeks-separator, seek-body, end-of, separator-of, back-one, back-body, header-of}
 
 -- ## An item's partners
 
@@ -45,14 +45,15 @@ header-here : {L : List Op} {j : ℕ} {b : Sort} {v : Bool} {a : Act} {os : List
 unfolding backAt
 header-here {L} {j} {b} {v} {a} t = back-one b t 0 ∙ ap (λ (r : Role). backAt r 0 (suc j) (λ e. back b L j e)) (own-header b v a)
 
-closed-item : {L : List Op} {j : ℕ} {b : Sort} {v : Bool} {a : Act} {body : List Op} (rest : List Op) → Body body → From L j (header b v a ∷ (body ++ (end b ∷ rest)))
-    → (endOf b L (suc j) ≡ suc (over body (suc j))) × (headerOf b L (suc (over body (suc j))) ≡ suc j)
+closed-item : {L : List Op} {j : ℕ} {b : Sort} {v : Bool} {a : Act} {body : List Op} (rest : List Op) → Body body
+    → From L j (header b v a ∷ (body ++ (end b ∷ rest))) → (endOf b L (suc j) ≡ suc (over body (suc j))) × (headerOf b L (suc (over body (suc j))) ≡ suc j)
 closed-item {j} {b} {body} rest y t = (
   end-of t b ∙ seek-body seeks-end b y 0 (suc (suc j)) (end b ∷ rest) ∙ end-here b _ rest ∙ over-suc body (suc j),
   header-of (from-over body (next t)) b (own-end b) ∙ back-body b (end b ∷ rest) y (next t) 0 ∙ header-here t,
 )
 
-parted-item : {L : List Op} {j : ℕ} {v : Bool} {a : Act} {one two : List Op} (rest : List Op) → Body one → Body two → From L j (header conditional v a ∷ (one ++ (separator ∷ (two ++ (end conditional ∷ rest)))))
+parted-item : {L : List Op} {j : ℕ} {v : Bool} {a : Act} {one two : List Op} (rest : List Op) → Body one → Body two
+    → From L j (header conditional v a ∷ (one ++ (separator ∷ (two ++ (end conditional ∷ rest)))))
     → Partnered L conditional (suc j) (suc (over one (suc j))) (suc (over two (suc (over one (suc j)))))
 unfolding seek endAt separatorAt backAt role roleOf bracket
 parted-item {L} {j} {one} {two} rest x y t =
@@ -61,7 +62,9 @@ parted-item {L} {j} {one} {two} rest x y t =
     let k = over one (suc j) in
     let second = seek-body seeks-end conditional y 0 (suc (suc k)) (end conditional ∷ rest) ∙ end-here conditional _ rest ∙ over-suc two (suc k) in
     record {
-      its-end = end-of t conditional ∙ seek-body seeks-end conditional x 0 (suc (suc j)) _ ∙ ap (λ (q : ℕ). seek endAt conditional 0 (suc q) (two ++ (end conditional ∷ rest))) (over-suc one (suc j)) ∙ second;
+      its-end =
+          end-of t conditional ∙ seek-body seeks-end conditional x 0 (suc (suc j)) _
+          ∙ ap (λ (q : ℕ). seek endAt conditional 0 (suc q) (two ++ (end conditional ∷ rest))) (over-suc one (suc j)) ∙ second;
       its-header =
           header-of t₂ conditional refl ∙ back-body conditional (end conditional ∷ rest) y (next t₁) 0 ∙ back-one conditional t₁ 0
           ∙ back-body conditional (separator ∷ (two ++ (end conditional ∷ rest))) x (next t) 0 ∙ header-here t;
@@ -77,7 +80,7 @@ partnered L b h k e (loop-item {j = j} {body = body} rest d y) =
     (record {
       its-end = p .0;
       its-header = p .1;
-      its-separator = λ q. absurd (let z : _≡_ {A = ℕ} 0 1 = cc in omega arith);
+      its-separator = λ q. clash cc;
       separator-end = λ i q. absurd (omega arith);
     })
 partnered L b h k e (one-arm {j = j} {body = body} rest d y) =
@@ -89,7 +92,8 @@ partnered L b h k e (one-arm {j = j} {body = body} rest d y) =
       its-separator = λ q. separator-of (from d) ∙ seek-body seeks-separator conditional y 0 (suc (suc j)) (end conditional ∷ rest);
       separator-end = λ i q. absurd (omega arith);
     })
-partnered L b h k e (two-arms {j = j} {one = one} {two = two} rest d x y) = rw (← over-length one (suc j), ← over-length two (suc (over one (suc j)))) (parted-item rest x y (from d))
+partnered L b h k e (two-arms {j = j} {one = one} {two = two} rest d x y) =
+    rw (← over-length one (suc j), ← over-length two (suc (over one (suc j)))) (parted-item rest x y (from d))
 
 -- ## Every record belongs to an item
 
@@ -103,37 +107,44 @@ module _ (L : List Op) where
   covered-append (x ∷ xs) ys i c d = (c .0, covered-append xs ys (suc i) (c .1) d)
 
   covered-at : (os : List Op) (i j : ℕ) (o : Op) → Covered i os → getElem? os j ≡ some o → Belongs L (j + i) o
-  covered-at [] i j o c e = absurd (let z : _≡_ {A = ℕ} 0 1 = cc in omega arith)
+  covered-at [] i j o c e = clash cc
   covered-at (x ∷ os) i zero o c e = let h : x ≡ o = cc in rw zero-add (subst (Belongs L i) h (c .0))
   covered-at (x ∷ os) i (suc j) o c e = subst (λ (k : ℕ). Belongs L k o) (omega arith) (covered-at os (suc i) j o (c .1) e)
 
-  -- A body behind the first records of L, and behind it more.
+  -- Records, behind them an end or a separator, and what follows.
+  then : (xs : List Op) (j : ℕ) (o : Op) (os : List Op) → Covered (suc j) xs → Belongs L (suc (over xs j)) o → Covered (suc (suc (over xs j))) os
+      → Covered (suc j) (xs ++ (o ∷ os))
+  then xs j o os c b d = covered-append xs (o ∷ os) (suc j) c (rw (over-suc xs j) (b, d))
+
+  -- A body behind the first j records of L, and more behind it.
   covered : {j : ℕ} {xs : List Op} (more : List Op) → Body xs → From L j (xs ++ more) → Covered (suc j) xs
   covered more nothing t = tt
   covered more (single e y) t = (by-itself e, covered more y (next t))
   covered {j} more (looping {body = xs} {rest = r} x y) t =
       let u = rw (append-assoc xs (end loop ∷ r) more) at t in
       let s : Stands L loop (suc j) 0 (suc (over xs (suc j))) = rw (over-length xs (suc j)) (loop-item (r ++ more) (from-drop u) x) in
-      (as-header _ _ s, covered-append xs (end loop ∷ r) (suc (suc j)) (covered (end loop ∷ (r ++ more)) x (next u)) (rw (over-suc xs (suc j)) (as-end _ _ s, covered more y (next (from-over xs (next u))))))
+      (as-header _ _ s, then xs (suc j) (end loop) r (covered _ x (next u)) (as-end _ _ s) (covered more y (next (from-over xs (next u)))))
   covered {j} more (oneArm {body = xs} {rest = r} x y) t =
       let u = rw (append-assoc xs (end conditional ∷ r) more) at t in
       let s : Stands L conditional (suc j) 0 (suc (over xs (suc j))) = rw (over-length xs (suc j)) (one-arm (r ++ more) (from-drop u) x) in
-      (as-header _ _ s, covered-append xs (end conditional ∷ r) (suc (suc j)) (covered (end conditional ∷ (r ++ more)) x (next u)) (rw (over-suc xs (suc j)) (as-end _ _ s, covered more y (next (from-over xs (next u))))))
+      (as-header _ _ s, then xs (suc j) (end conditional) r (covered _ x (next u)) (as-end _ _ s) (covered more y (next (from-over xs (next u)))))
   covered {j} more (twoArms {first = xs} {second = ys} {rest = r} x y z) t =
       let k = over xs (suc j) in
-      let u = rw (append-assoc xs (separator ∷ (ys ++ (end conditional ∷ r))) more, append-assoc ys (end conditional ∷ r) more) at t in
-      let u₁ = from-over xs (next u) in
-      let s : Stands L conditional (suc j) (suc k) (suc (over ys (suc k))) = rw (over-length ys (suc k), over-length xs (suc j)) (two-arms (r ++ more) (from-drop u) x y) in (
-        as-header _ _ s,
-        covered-append xs (separator ∷ (ys ++ (end conditional ∷ r))) (suc (suc j)) (covered (separator ∷ (ys ++ (end conditional ∷ (r ++ more)))) x (next u))
-            (rw (over-suc xs (suc j))
-            (as-separator _ _ s, covered-append ys (end conditional ∷ r) (suc (suc k)) (covered (end conditional ∷ (r ++ more)) y (next u₁)) (rw (over-suc ys (suc k)) (as-end _ _ s, covered more z (next (from-over ys (next u₁))))))),
-      )
+      let os = ys ++ (end conditional ∷ r) in
+      let u = rw (append-assoc xs (separator ∷ os) more, append-assoc ys (end conditional ∷ r) more) at t in
+      let u₁ = next (from-over xs (next u)) in
+      let i = two-arms (r ++ more) (from-drop u) x y in
+      let s : Stands L conditional (suc j) (suc k) (suc (over ys (suc k))) = rw (over-length ys (suc k), over-length xs (suc j)) i in
+      let d = then ys (suc k) (end conditional) r (covered _ y u₁) (as-end _ _ s) (covered more z (next (from-over ys u₁))) in
+      (as-header _ _ s, then xs (suc j) separator os (covered _ x (next u)) (as-separator _ _ s) d)
 
   belongs : Body L → (i : ℕ) (o : Op) → at L i ≡ some o → Belongs L i o
   unfolding at
-  belongs y zero o e = absurd (let z : _≡_ {A = ℕ} 0 1 = cc in omega arith)
+  belongs y zero o e = clash cc
   belongs y (suc j) o e = subst (λ (k : ℕ). Belongs L k o) (add-one j) (covered-at L 1 j o (covered [] y (subst (From L 0) (sym (append-nil L)) whole)) e)
 
 pub partners : Partners
 partners L = (partnered L, belongs L)
+
+pub partners-file : PartnersFile
+partners-file f n e = belongs (ops f) (grammar (ops f) .0 .0 (admitted f n e .nested))

@@ -1,1 +1,4 @@
 pub mod Promises
+pub mod Audit
+pub mod Place
+pub mod Items

@@ -1,9 +1,9 @@
 -- A record by its number, as code reads it: out of range there is nothing, and in range it is the record at its bytes.
-use mathlib.Core.Path.{_≡_, refl, sym, ap, _∙_}
+use mathlib.Core.Path.{_≡_, refl, ap}
 use Prim.Native.Nat.{ℕ, zero, suc, _-_, _≤_, _<_}
 use native.Mathlib.Omega.{arith}
 use mathlib.Core.List.{List}
-use Rattle.rules.specs.Record.{Rec, rec, count}
+use Rattle.rules.specs.Record.{rec, count}
 use Rattle.rules.proofs.Records.{at-zero, recordAt, records-at, records-none}
 use Rattle.rules.specs.Record.{records}
 use Rattle.records.specs.Reading.{orNothing, recAt}

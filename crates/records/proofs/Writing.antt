@@ -1,6 +1,6 @@
 -- Writing into the unwritten rest of an output, lent on as `&mut w[at..]`: the same few laws for every writer of records.
 --     put-rest     what the whole holds when the rest comes back
---     one, more    one record, where it has its room; a writer's records behind those written before
+--     eight, put, one, wrote-as, wrote-length, more     one record, where it has its room; the same records by another name; a writer's records behind those written before
 --     Written      the invariant of a loop that writes the groups of records 1 to n, each into the rest: after i of them
 --     start, room-for, turn, finish     at the start; the next group has its room; one group more; at the end
 --     filled-by    what a call that succeeds leaves in its output
@@ -10,15 +10,17 @@ use mathlib.Core.Path.{_≡_, refl, sym, ap, _∙_}
 use Prim.Native.Nat.{ℕ, zero, suc, _+_, _-_, _*_, _≤_, _<_}
 use native.Mathlib.Numerals.{add-one}
 use native.Mathlib.Omega.{arith}
+use mathlib.Core.Bool.{Bool, true, false, cond}
 use mathlib.Core.List.{List, [], _∷_, _++_, append-nil, append-assoc}
 use lib.ListN.{length, take, drop, getD, length-append, length-drop, drop-of-length-le}
 use lib.Seq.{take-at, drop-at, take-all, drop-drop, drop-cons}
+use lib.Dec.{leb}
 use borrow.Rule.Slice.PartMut.{putMid}
 use borrow.Author.Tests.{le-leb}
 use Rattle.rules.specs.declared.Verdict.{Verdict}
 use Rattle.rules.specs.declared.Verdict.the-variants.{Accepted}
 use Rattle.rules.specs.Answers.{filled}
-use Rattle.rules.specs.Record.{Rec, rec, bytesOf, count, records}
+use Rattle.rules.specs.Record.{Rec, rec, recordBytes, bytesOf, count, records}
 use Rattle.rules.specs.Numbers.{each}
 use Rattle.rules.proofs.Records.{bytes-append, bytes-length, records-length, records-getD, records-at}
 use Rattle.rules.proofs.SecondLevel.{groups, groups-ext, groups-room, each-groups}
@@ -39,12 +41,25 @@ put-rest p g w o ys at k ea ew ey =
     let e : drop (length w - at) (drop at w) ≡ [] = drop-of-length-le (drop at w) l in
     rw (ey, t, e, m, d) (simp (append-nil, append-assoc, drop-drop))
 
--- q is the record that `put_record` was given.
+pub eight : {r : Rec} {o w : List ℕ} {k : ℕ} → Put r o w k → 8 ≤ length o → k ≡ 8
+eight {o = o} p room = p .answers ∙ rw (le-leb 8 (length o) room)
+
+-- q is the record that `put_record` was given, and it was written: it had its room.
+pub put : {q r : Rec} {o w : List ℕ} {k : ℕ} → q ≡ r → Put r o w k → k ≡ 8 → Wrote (q ∷ []) o w k
+put {q} {r} {o} {w} {k} e p h = record { count = h; holds = rw (h, e) (p .holds ∙ by (leb 8 (length o)) (sym (p .answers) ∙ h)) }
+  where
+    by : (b : Bool) → _≡_ {A = ℕ} (cond b 8 0) 8 → cond b (recordBytes r ++ drop 8 o) o ≡ recordBytes r ++ drop 8 o
+    by true z = refl
+    by false z = absurd (omega arith)
+
 pub one : {q r : Rec} {o w : List ℕ} {k : ℕ} → q ≡ r → Put r o w k → 8 ≤ length o → Wrote (q ∷ []) o w k
-one {q} {r} {o} {w} {k} e p room =
-    let t = le-leb 8 (length o) room in
-    let k8 : k ≡ 8 = p .answers ∙ rw t in
-    record { count = k8; holds = rw (k8, e) (p .holds ∙ rw t) }
+one e p room = put e p (eight p room)
+
+pub wrote-as : {f g : List Rec} {o w : List ℕ} {k : ℕ} → f ≡ g → Wrote g o w k → Wrote f o w k
+wrote-as e w = rw e w
+
+pub wrote-length : {g : List Rec} {o w : List ℕ} {k : ℕ} → Wrote g o w k → k ≡ 8 * length g
+wrote-length {g} w = w .count ∙ bytes-length g
 
 pub more : {rs g : List Rec} {o w ys : List ℕ} {at k : ℕ} → Wrote rs o w at → Wrote g (rest w at) ys k
     → Wrote (rs ++ g) o (putMid at (length w - at) w ys) (at + k)

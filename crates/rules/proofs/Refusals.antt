@@ -1,5 +1,5 @@
 -- How a call's checks follow one another.
---     refused-then, accepted-then     checks with more behind them: an earlier refusal stays, and where there is none the later ones decide
+--     or-none, first-append, refused-then, accepted-then     checks with more behind them: an earlier refusal stays, and where there is none the later ones decide
 --     accepted-count, accepted-none, none-first, none-then     what is accepted, and that no check of it found anything
 --     when-none, whenAt-none     a check that finds nothing: its test is false, its place 0
 --     Fine, fine     no refusal 1 to 4: no bytes left over, not too many records, none with a fault
@@ -20,7 +20,12 @@ use Rattle.rules.specs.Refusals.{when, whenAt, orElse, first, verdictOf,
 use Rattle.rules.specs.Record.{count}
 use Rattle.rules.specs.Checks.{ragged, most, long, faultFrom, recordChecks}
 
-first-append : (cs ds : List (Option Refusal)) → first (cs ++ ds) ≡ orElse (first cs) (first ds)
+pub or-none : (c : Option Refusal) → orElse c none ≡ c
+unfolding orElse
+or-none none = refl
+or-none (some r) = refl
+
+pub first-append : (cs ds : List (Option Refusal)) → first (cs ++ ds) ≡ orElse (first cs) (first ds)
 unfolding first orElse
 first-append [] ds = refl
 first-append (none ∷ cs) ds = first-append cs ds

@@ -1,8 +1,6 @@
 // Routines whose shape is easily judged wrong. One line for each: the refusal's number and place, or how many records are accepted and
 // how long the base is. Then lookups, of which those that find nothing print 0.
-use libc::STDOUT_FILENO;
 use records::put_record;
-use rules::Refusal;
 use rules::Verdict;
 
 // x of the records here: 1, or 0 where the kind has no field.
@@ -38,41 +36,9 @@ fn write(file: &mut [u8], kinds: &[u8]) {
     }
 }
 
-fn number(refusal: Refusal) -> u64 {
-    match refusal {
-        Refusal::Ragged => 1,
-        Refusal::Long => 2,
-        Refusal::Kind(_) => 3,
-        Refusal::Field(_) => 4,
-        Refusal::Nesting(_) => 5,
-        Refusal::Skip(_) => 6,
-        Refusal::Growth => 7,
-        Refusal::Room => 8,
-        Refusal::Reply(_) => 9,
-        Refusal::State => 10,
-        Refusal::Far(_) => 11,
-    }
-}
-
-fn place(refusal: Refusal) -> usize {
-    match refusal {
-        Refusal::Ragged => 0,
-        Refusal::Long => 0,
-        Refusal::Kind(i) => i,
-        Refusal::Field(i) => i,
-        Refusal::Nesting(i) => i,
-        Refusal::Skip(i) => i,
-        Refusal::Growth => 0,
-        Refusal::Room => 0,
-        Refusal::Reply(i) => i,
-        Refusal::State => 0,
-        Refusal::Far(i) => i,
-    }
-}
-
-fn words(text: &[u8], n: u64) {
-    io::write_all(STDOUT_FILENO, text);
-    io::print_decimal(STDOUT_FILENO, n);
+fn words(text: &[u8], n: usize) {
+    show::word(text);
+    show::number(n);
 }
 
 // The first n records.
@@ -85,78 +51,72 @@ fn records_of(file: &[u8], n: usize) -> &[u8] {
 }
 
 // The verdict on the first n records.
-fn show(name: &[u8], file: &[u8], n: usize) {
+fn judge(name: &[u8], file: &[u8], n: usize) {
     let routine = records_of(file, n);
-    io::write_all(STDOUT_FILENO, name);
+    show::word(name);
     let verdict = shape::check_routine(routine);
     match verdict {
         Verdict::Accepted(records) => {
-            words(b": accepted ", records as u64);
-            words(b", base ", shape::base_count(routine) as u64);
+            words(b": accepted ", records);
+            words(b", base ", shape::base_count(routine));
         }
         Verdict::Refused(refusal) => {
-            words(b": refused ", number(refusal));
-            words(b" ", place(refusal) as u64);
+            words(b": refused ", listing::number_of(refusal));
+            words(b" ", listing::place_of(refusal));
         }
     }
-    io::write_all(STDOUT_FILENO, b"\n");
+    show::word(b"\n");
 }
 
 // The verdict on a routine of these kinds.
-fn show_kinds(name: &[u8], kinds: &[u8]) {
+fn judge_kinds(name: &[u8], kinds: &[u8]) {
     let mut file = [0; 4096];
     write(&mut file, kinds);
-    show(name, &file, kinds.len());
+    judge(name, &file, kinds.len());
 }
 
 fn nesting_cases() {
-    show_kinds(b"}{", &[10]);
-    show_kinds(b"+a{; +a{*; }", &[8, 12, 11]);
-    show_kinds(b"+a{; }{; }{; }", &[8, 10, 10, 11]);
-    show_kinds(b"+a{*; }{; *}", &[12, 10, 14]);
-    show_kinds(b"a; -a{; +a{*; *}", &[1, 9, 12, 14]);
-}
-
-fn deep_cases() {
+    judge_kinds(b"}{", &[10]);
+    judge_kinds(b"+a{; +a{*; }", &[8, 12, 11]);
+    judge_kinds(b"+a{; }{; }{; }", &[8, 10, 10, 11]);
+    judge_kinds(b"+a{*; }{; *}", &[12, 10, 14]);
+    judge_kinds(b"a; -a{; +a{*; *}", &[1, 9, 12, 14]);
     let mut file = [0; 4096];
     fill(&mut file, 0, 512, 8);
-    show(b"512 openers", &file, 512);
+    judge(b"512 openers", &file, 512);
     fill(&mut file, 0, 512, 11);
-    show(b"512 ends", &file, 512);
+    judge(b"512 ends", &file, 512);
     fill(&mut file, 0, 256, 13);
-    show(b"256 openers with other ends", &file, 512);
+    judge(b"256 openers with other ends", &file, 512);
     fill(&mut file, 256, 512, 14);
-    show(b"256 openers with their ends", &file, 512);
-    show(b"256 openers with 255 ends", &file, 511);
+    judge(b"256 openers with their ends", &file, 512);
+    judge(b"256 openers with 255 ends", &file, 511);
 }
 
-fn skip_cases() {
-    show_kinds(b"empty", &[]);
-    show_kinds(b"+a; R##1", &[2, 15]);
-    show_kinds(b"a; -a; ##R", &[1, 3, 16]);
-    show_kinds(b"R##1; +a", &[15, 2]);
-}
-
-fn long_cases() {
+fn length_cases() {
+    judge_kinds(b"empty", &[]);
+    judge_kinds(b"+a; R##1", &[2, 15]);
+    judge_kinds(b"a; -a; ##R", &[1, 3, 16]);
+    judge_kinds(b"R##1; +a", &[15, 2]);
     let mut file = [0; 4096];
     fill(&mut file, 0, 2, 16);
     fill(&mut file, 2, 68, 15);
     fill(&mut file, 68, 310, 1);
-    show(b"2 returns, 66 calls, 242 actions", &file, 310);
+    judge(b"2 returns, 66 calls, 242 actions", &file, 310);
     fill(&mut file, 68, 69, 15);
-    show(b"2 returns, 67 calls, 241 actions", &file, 310);
+    judge(b"2 returns, 67 calls, 241 actions", &file, 310);
     fill(&mut file, 0, 511, 15);
     fill(&mut file, 511, 512, 16);
-    show(b"511 calls, a return", &file, 512);
+    judge(b"511 calls, a return", &file, 512);
     fill(&mut file, 0, 512, 16);
-    show(b"512 returns", &file, 512);
+    judge(b"512 returns", &file, 512);
     fill(&mut file, 0, 1, 2);
-    show(b"a test, 511 returns", &file, 512);
+    judge(b"a test, 511 returns", &file, 512);
 }
 
 fn found(name: &[u8], i: usize) {
-    words(name, i as u64);
-    io::write_all(STDOUT_FILENO, b"\n");
+    words(name, i);
+    show::word(b"\n");
 }
 
 // The paper's printed example, -a{*; a; +a{; a; }{; a; }; *}; a.
@@ -197,9 +157,7 @@ fn label_cases() {
 
 fn main() {
     nesting_cases();
-    deep_cases();
-    skip_cases();
-    long_cases();
+    length_cases();
     partner_cases();
     label_cases();
 }

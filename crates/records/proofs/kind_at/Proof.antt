@@ -1,4 +1,4 @@
-use mathlib.Core.Path.{_≡_, sym, ap}
+use mathlib.Core.Path.{sym, ap}
 use borrow.Author.Needs.{needs}
 use Rattle.rules.specs.Record.{Rec}
 use Rattle.records.proofs.Reading.{rec-zero, rec-none, rec-at}

@@ -1,26 +1,19 @@
-use mathlib.Core.Path.{_≡_, refl, sym, ap, _∙_}
+use mathlib.Core.Path.{_≡_, _∙_}
 use Prim.Native.Nat.{ℕ, _%_, _≤_, _<_}
-use native.Mathlib.Omega.{arith}
 use borrow.Author.Needs.{needs}
 use borrow.Author.Tests.{eq-eqb, ne-eqb, lt-ltb, le-ltb}
 use mathlib.Core.List.{List}
-use mathlib.Core.Option.{Option, none, some}
 use lib.ListN.{length}
 use Rattle.rules.specs.declared.Notation.{Notation}
-use Rattle.rules.specs.declared.Refusal.{Refusal}
 use Rattle.rules.specs.declared.Refusal.the-variants.{Ragged, Long}
 use Rattle.rules.specs.declared.Verdict.the-variants.{Refused}
 use Rattle.rules.specs.Record.{count}
 use Rattle.rules.specs.Refusals.{when, orElse, first, verdictOf, verdict}
 use Rattle.rules.specs.Checks.{ragged, most, long, faultFrom, recordChecks}
 use Rattle.rules.specs.Answers.{checkRecords}
+use Rattle.rules.proofs.Refusals.{or-none}
 use Rattle.records.proofs.check.check_records.Statement.{statement}
 use Rattle.records.proofs.check.check_records.Tie as tie
-
-or-none : (c : Option Refusal) → orElse c none ≡ c
-unfolding orElse
-or-none none = refl
-or-none (some r) = refl
 
 module _ (nt : Notation) (s : List ℕ) where
   is-ragged : ¬ (length s % 8 ≡ 0) → Refused Ragged ≡ checkRecords nt s

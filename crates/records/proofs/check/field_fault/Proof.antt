@@ -1,11 +1,10 @@
-use mathlib.Core.Path.{_≡_, sym, ap, _∙_}
-use Prim.Native.Nat.{ℕ}
+use mathlib.Core.Path.{_≡_, sym, _∙_}
 use borrow.Author.Needs.{needs}
-use mathlib.Core.Bool.{Bool, true, false, not, _&&_, _||_}
-use mathlib.Core.Option.{none, some}
+use mathlib.Core.Bool.{Bool, true, false, not, _&&_}
+use mathlib.Core.Option.{some}
 use Rattle.rules.specs.declared.Notation.{Notation}
 use Rattle.rules.specs.declared.Row.{Row}
-use Rattle.rules.specs.Record.{Rec, rec}
+use Rattle.rules.specs.Record.{Rec}
 use Rattle.rules.specs.Table.{rowOf}
 use Rattle.rules.specs.Checks.{inRow, stackAction, hasStack, fieldFault}
 use Rattle.records.specs.Entries.{entryOf}

@@ -1,4 +1,3 @@
-use mathlib.Core.Path.{_≡_, refl, sym, ap, _∙_}
 use borrow.Author.Needs.{needs}
 use Rattle.rules.specs.Checks.{hasStack}
 use Rattle.records.proofs.check.has_stack.Statement.{statement}

@@ -6,7 +6,6 @@ use mathlib.Core.Bool.{Bool, true, false, not, _&&_}
 use mathlib.Core.List.{List}
 use lib.ListN.{drop}
 use Rattle.rules.specs.declared.Notation.{Notation}
-use Rattle.rules.specs.declared.Row.{Row}
 use Rattle.rules.specs.Record.{Rec, count, spareZero}
 use Rattle.rules.specs.Table.{rowOf}
 use Rattle.rules.specs.Checks.{listed, kindFault}

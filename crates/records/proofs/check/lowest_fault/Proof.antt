@@ -6,7 +6,7 @@ use mathlib.Core.Bool.{Bool}
 use mathlib.Core.List.{List}
 use lib.ListN.{drop}
 use Rattle.rules.specs.declared.Notation.{Notation}
-use Rattle.rules.specs.Record.{Rec, rec, recordOf, count}
+use Rattle.rules.specs.Record.{rec, recordOf, count}
 use Rattle.rules.specs.Checks.{fieldFault, faultFrom}
 use Rattle.rules.specs.Refusals.{verdictOf}
 use Rattle.records.specs.Reading.{recAt}

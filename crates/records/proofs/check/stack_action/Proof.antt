@@ -1,6 +1,6 @@
 use mathlib.Core.Path.{sym}
 use mathlib.Core.Bool.{or-false}
-use borrow.Author.Tests.{eq-eqb, ne-eqb}
+use borrow.Author.Tests.{ne-eqb}
 use Rattle.rules.specs.Checks.{stackAction}
 use Rattle.records.proofs.Faults.{names-in, names-zero, names-above}
 use Rattle.records.proofs.check.stack_action.Statement.{statement}

@@ -1,0 +1,4 @@
+pub mod Chains
+pub mod Forms
+pub mod Groups
+pub mod Places

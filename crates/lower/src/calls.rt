@@ -1,0 +1,75 @@
+// Stage 2: calls and returns (4.1, 4.2).
+use crate::second_level::Stage;
+use crate::second_level::place;
+use crate::second_level::put_kept;
+use crate::second_level::put_pair;
+use records::kind_at;
+use records::put_record;
+use records::x_at;
+ghost use mathlib.Core.Path.{_≡_};
+ghost use mathlib.Core.List.{[], _∷_, map};
+ghost use Prim.Native.Nat.{_*_, _≤_, _<_};
+ghost use lib.ListN.{length};
+ghost use Rattle.rules.specs.Record.{rec, count};
+ghost use Rattle.rules.specs.Instruction.{encode, ops};
+ghost use Rattle.rules.specs.Calls.{calls};
+ghost use Rattle.records.specs.Writing.{Wrote};
+ghost use Rattle.lower.specs.Stages.{group, chainOf, Asks};
+
+// The first four records of the chain for j: +compare(j){, pop, ##to and }{.
+fn put_link(out: &mut [u8], j: u16, to: u16) -> usize
+    requires { ⌜ 32 ≤ length (now out) ⌝ }
+    ensures { λ r. ⌜ Wrote (rec 8 1003 j ∷ rec 1 1002 0 ∷ rec 4 to 0 ∷ rec 10 0 0 ∷ []) (now (out .entry)) (now (out .exit)) r ⌝ }
+{
+    let mut at = put_record(out, 8, 1003, j);
+    at += put_record(&mut out[at..], 1, 1002, 0);
+    at += put_record(&mut out[at..], 4, to, 0);
+    at + put_record(&mut out[at..], 10, 0, 0)
+}
+
+// The chain for j: a link, whose second arm holds the chain for j-1, or ##0 where j is 1; and }.
+fn write_chain(s: &[u8], j: usize, out: &mut [u8]) -> usize
+    requires { ⌜ Asks Stage.Calls (now s) × (1 ≤ j) × (j ≤ count (now s)) × (8 * length (chainOf (ops (now s)) j) ≤ length (now out)) ⌝ }
+    ensures { λ r. ⌜ Wrote (chainOf (ops (now (s .entry))) j) (now (out .entry)) (now (out .exit)) r ⌝ }
+{
+    let link = put_link(out, j as u16, place(Stage::Calls, s, j));
+    if j == 1 {
+        let arm = link + put_record(&mut out[link..], 4, 0, 0);
+        return arm + put_record(&mut out[arm..], 11, 0, 0);
+    }
+    let arm = link + write_chain(s, j - 1, &mut out[link..]);
+    arm + put_record(&mut out[arm..], 11, 0, 0)
+}
+
+// R##k at i becomes push(i+1) followed by a second-level ##k. ##R becomes the chain for n, the routine's record count.
+fn write_group(s: &[u8], i: usize, out: &mut [u8]) -> usize
+    requires { ⌜ Asks Stage.Calls (now s) × (1 ≤ i) × (i ≤ count (now s)) × (8 * length (group Stage.Calls (now s) i) ≤ length (now out)) ⌝ }
+    ensures { λ r. ⌜ Wrote (group Stage.Calls (now (s .entry)) i) (now (out .entry)) (now (out .exit)) r ⌝ }
+{
+    match kind_at(s, i) {
+        15 => put_pair(
+            out,
+            1,
+            1001,
+            (i + 1) as u16,
+            place(Stage::Calls, s, x_at(s, i) as usize),
+        ),
+        16 => write_chain(s, s.len() / 8, out),
+        _ => put_kept(Stage::Calls, s, i, out),
+    }
+}
+
+// The whole stage: each record's group goes into the unwritten rest of the output. Answers how many bytes it wrote.
+pub(crate) fn calls(s: &[u8], out: &mut [u8]) -> usize
+    requires { ⌜ Asks Stage.Calls (now s) × (8 * length (calls (ops (now s))) ≤ length (now out)) ⌝ }
+    ensures { λ r. ⌜ Wrote (map encode (calls (ops (now (s .entry))))) (now (out .entry)) (now (out .exit)) r ⌝ }
+{
+    let n = s.len() / 8;
+    let mut at = 0;
+    let mut i = 0;
+    while i < n {
+        at += write_group(s, i + 1, &mut out[at..]);
+        i += 1;
+    }
+    at
+}

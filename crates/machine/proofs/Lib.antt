@@ -1,0 +1,11 @@
+pub mod Stacks
+pub mod States
+pub mod Places
+pub mod Deeds
+pub mod Asking
+pub mod Moving
+pub mod Turning
+pub mod Running
+pub mod Stepping
+pub mod Checking
+pub mod Once

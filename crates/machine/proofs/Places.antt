@@ -1,0 +1,75 @@
+-- Separators and ends are records of the list, so that the number after one fits; and the place of a record whose kind is known.
+use mathlib.Core.Path.{_≡_, refl, sym, ap, _∙_, subst}
+use Prim.Native.Nat.{ℕ, zero, suc, _+_, _-_, _≤_, _<_}
+use native.Mathlib.Omega.{arith}
+use mathlib.Core.List.{List, [], _∷_}
+use mathlib.Core.Bool.{Bool, true, false}
+use lib.ListN.{length, take, drop, getD, set, length-drop, length-take}
+use lib.Seq.{getD-set-same, getD-set-other, getD-take}
+use lib.Dec.{eqb}
+use borrow.Author.Tests.{eqb-true, eqb-false}
+use Rattle.rules.specs.Record.{Rec, count}
+use Rattle.rules.specs.Instruction.{Sort, conditional, loop, Op, ops}
+use Rattle.rules.specs.Numbers.{given}
+use Rattle.rules.specs.Partners.{Role, opens, parts, ends, other, role, endAt, endFrom, separatorAt, separatorFrom, endOf, separatorOf}
+use Rattle.machine.specs.Places.{placeAt, Places}
+use Rattle.rules.proofs.Partners.{end-out, separator-out}
+use Rattle.rules.proofs.Records.{ops-length}
+
+end-from : (b : Sort) (d k : ℕ) (os : List Op) → endFrom b d (suc k) os ≤ k + length os
+unfolding endFrom endAt
+end-from b d k [] = omega arith
+end-from b d k (o ∷ os) = by (role b o) d (λ e. omega (arith, end-from b e (suc k) os))
+  where
+    by : (r : Role) (d : ℕ) → ((e : ℕ) → endFrom b e (suc (suc k)) os ≤ k + length (o ∷ os))
+        → endAt r d (suc k) (λ e. endFrom b e (suc (suc k)) os) ≤ k + length (o ∷ os)
+    by opens d on = on (suc d)
+    by parts d on = on d
+    by ends zero on = omega arith
+    by ends (suc d) on = on d
+    by other d on = on d
+
+separator-from : (d k : ℕ) (os : List Op) → separatorFrom d (suc k) os ≤ k + length os
+unfolding separatorFrom separatorAt
+separator-from d k [] = omega arith
+separator-from d k (o ∷ os) = by (role conditional o) d (λ e. omega (arith, separator-from e (suc k) os))
+  where
+    by : (r : Role) (d : ℕ) → ((e : ℕ) → separatorFrom e (suc (suc k)) os ≤ k + length (o ∷ os))
+        → separatorAt r d (suc k) (λ e. separatorFrom e (suc (suc k)) os) ≤ k + length (o ∷ os)
+    by opens d on = on (suc d)
+    by parts zero on = omega arith
+    by parts (suc d) on = on (suc d)
+    by ends zero on = omega arith
+    by ends (suc d) on = on d
+    by other d on = on d
+
+pub end-in : (b : Sort) (L : List Op) (i : ℕ) → i ≤ length L → endOf b L i ≤ length L
+unfolding endOf
+end-in b L i h = omega (arith, end-from b 0 i (drop i L), length-drop i L)
+
+pub separator-in : (L : List Op) (i : ℕ) → i ≤ length L → separatorOf L i ≤ length L
+unfolding separatorOf
+separator-in L zero h = omega arith
+separator-in L (suc i) h = omega (arith, separator-from 0 (suc i) (drop (suc i) L), length-drop (suc i) L)
+
+pub given-none : (k x : ℕ) → k ≡ 0 → given k x ≡ 0
+unfolding given
+given-none k x e = rw e
+
+pub given-some : (k x : ℕ) → ¬ (k ≡ 0) → given k x ≡ x
+unfolding given
+given-some zero x h = absurd (h refl)
+given-some (suc k) x h = refl
+
+-- ## Places worked out one after another
+
+pub one-more : (s found : List ℕ) (k v : ℕ) → k < length found → v ≡ placeAt s (suc k) → ((j : ℕ) → j < k → getD found j 0 ≡ placeAt s (suc j))
+    → (j : ℕ) → j < suc k → getD (set found k v) j 0 ≡ placeAt s (suc j)
+one-more s found k v l e h j q = by (eqb j k) refl
+  where
+    by : (b : Bool) → eqb j k ≡ b → getD (set found k v) j 0 ≡ placeAt s (suc j)
+    by true p = let z = eqb-true j k p in rw z (getD-set-same found k v 0 l ∙ e)
+    by false p = let z = eqb-false j k p in getD-set-other found k j v 0 z ∙ h j (omega arith)
+
+pub the-first : (s found : List ℕ) (n : ℕ) → ((j : ℕ) → j < n → getD found j 0 ≡ placeAt s (suc j)) → Places s (take n found)
+the-first s found n h j l = let q : j < n = omega (arith, length-take n found) in rw (getD-take n found j 0 q) (h j q)

@@ -1,0 +1,14 @@
+use native.Mathlib.Omega.{arith}
+use borrow.Author.Needs.{needs}
+use Rattle.machine.proofs.Deeds.{means-call, means-return}
+use Rattle.machine.proofs.deed.call.Statement.{statement}
+use Rattle.machine.proofs.deed.call.Tie as tie
+
+pub call-spec : {M : Type 1} → statement M
+call-spec =
+    tie.close
+    (tie.spec
+    (λ c. search needs)
+    (λ c. search needs)
+    (λ c L. means-call L _ _ _ _ (c .if1 .taken))
+    (λ c L. means-return L _ _ _ _ (omega arith)))

@@ -1,0 +1,10 @@
+pub mod Stacks
+pub mod States
+pub mod Places
+pub mod Deeds
+pub mod Asking
+pub mod Moving
+pub mod Turning
+pub mod Stopping
+pub mod Checking
+pub mod Stepping

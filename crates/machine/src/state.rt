@@ -1,0 +1,77 @@
+// A machine state: which are sound, and where a run starts.
+use crate::stack::Counters;
+use rules::Stack;
+use rules::State;
+ghost use mathlib.Core.Path.{_≡_};
+ghost use Rattle.rules.specs.Answers.{badReply, sound, noState};
+ghost use Rattle.machine.specs.States.{entryFine, stackSound, startState};
+
+// Entries in use are 0..9,999 and unused ones zero: entry v at place i, from 0, of a stack of depth d.
+fn entry_fine(d: usize, i: usize, v: u16) -> bool
+    ensures { λ r. ⌜ r ≡ entryFine d i v ⌝ }
+{
+    if i < d { v <= 9999 } else { v == 0 }
+}
+
+// A depth of 0..96, and every entry as it should be.
+fn stack_sound(stack: Stack) -> bool
+    ensures { λ r. ⌜ r ≡ stackSound stack ⌝ }
+{
+    let d = stack.depth;
+    if 96 < d {
+        return false;
+    }
+    let mut i: usize = 0;
+    while i < 96 {
+        if !entry_fine(d, i, stack.entries[i]) {
+            return false;
+        }
+        i += 1;
+    }
+    true
+}
+
+// A position 0..n, and a sound stack.
+pub fn sound(n: usize, state: State) -> bool
+    ensures { λ r. ⌜ r ≡ sound n state ⌝ }
+{
+    let at = state.at;
+    if n < at {
+        return false;
+    }
+    let stack = state.stack;
+    stack_sound(stack)
+}
+
+// The first reply byte that is not 0 or 1, from 1; 0 where there is none.
+pub fn bad_reply(replies: &[u8]) -> usize
+    ensures { λ r. ⌜ r ≡ badReply (now (replies .entry)) ⌝ }
+{
+    let mut i: usize = 0;
+    while i < replies.len() {
+        if 1 < replies[i] {
+            return i + 1;
+        }
+        i += 1;
+    }
+    0
+}
+
+// The start of a run over n records: position 1, or 0 if n = 0, and a fresh stack.
+pub fn start(n: usize) -> State
+    ensures { λ r. ⌜ r ≡ startState n ⌝ }
+{
+    let stack = Counters::fresh();
+    if n == 0 {
+        return State { at: 0, stack };
+    }
+    State { at: 1, stack }
+}
+
+// What a refused run hands back: a fresh state that has ended.
+pub fn no_state() -> State
+    ensures { λ r. ⌜ r ≡ noState ⌝ }
+{
+    let stack = Counters::fresh();
+    State { at: 0, stack }
+}

@@ -1,0 +1,76 @@
+//! Medians of samples that are taken in turns.
+
+use std::time::Instant;
+
+use crate::cases::{Case, Side};
+
+/// Samples of each side.
+const SAMPLES: usize = 101;
+/// How long a sample should last, in microseconds.
+const SAMPLE_LENGTH: f64 = 1_000.0;
+
+/// Microseconds for a call, and how the two sides stand to each other.
+pub struct Times {
+    pub proved: f64,
+    pub ordinary: f64,
+    /// Proved by ordinary.
+    pub ratio: f64,
+    pub lower: f64,
+    pub upper: f64,
+    /// The same of the fastest sample of each side, which a busy machine disturbs
+    /// least.
+    pub fastest: f64,
+}
+
+/// Times both sides of a case, each in turn going first.
+pub fn measure(case: &mut Case) -> Times {
+    let calls = [Side::Proved, Side::Ordinary].map(|side| calls_in_a_sample(case, side));
+    let mut proved = Vec::with_capacity(SAMPLES);
+    let mut ordinary = Vec::with_capacity(SAMPLES);
+    for sample in 0..SAMPLES {
+        if sample % 2 == 0 {
+            proved.push(time(case, Side::Proved, calls[0]));
+            ordinary.push(time(case, Side::Ordinary, calls[1]));
+        } else {
+            ordinary.push(time(case, Side::Ordinary, calls[1]));
+            proved.push(time(case, Side::Proved, calls[0]));
+        }
+    }
+    let mut ratios: Vec<f64> = proved.iter().zip(&ordinary).map(|(p, o)| p / o).collect();
+    Times {
+        proved: at_part(&mut proved, 0.5),
+        ordinary: at_part(&mut ordinary, 0.5),
+        ratio: at_part(&mut ratios, 0.5),
+        lower: at_part(&mut ratios, 0.25),
+        upper: at_part(&mut ratios, 0.75),
+        fastest: at_part(&mut proved, 0.0) / at_part(&mut ordinary, 0.0),
+    }
+}
+
+/// Enough calls to fill a sample, found after some to warm up.
+fn calls_in_a_sample(case: &mut Case, side: Side) -> u32 {
+    let mut calls = 1;
+    loop {
+        let each = time(case, side, calls);
+        if f64::from(calls) * each >= SAMPLE_LENGTH / 2.0 {
+            return (SAMPLE_LENGTH / each).ceil() as u32;
+        }
+        calls *= 2;
+    }
+}
+
+/// Microseconds for one call, out of this many.
+fn time(case: &mut Case, side: Side, calls: u32) -> f64 {
+    let started = Instant::now();
+    for _ in 0..calls {
+        case.call(side);
+    }
+    started.elapsed().as_secs_f64() * 1e6 / f64::from(calls)
+}
+
+/// The value that so great a part of the others lies below.
+fn at_part(values: &mut [f64], part: f64) -> f64 {
+    values.sort_by(f64::total_cmp);
+    let last = values.len() - 1;
+    values[(part * last as f64).round() as usize]
+}

@@ -1,0 +1,209 @@
+//! The refusals, and what to do about each.
+
+use std::error::Error;
+use std::fmt;
+
+/// Why a call was turned away. Records and reply bytes are numbered from 1.
+#[derive(Clone, Copy, PartialEq, Eq, Hash, Debug)]
+pub enum Refusal {
+    /// 1: the byte count is no multiple of 8.
+    Ragged,
+    /// 2: more records than allowed.
+    Long,
+    /// 3: a kind that is not of this notation, or byte 1, 6 or 7 not zero.
+    Kind {
+        /// The record with this fault.
+        record: u32,
+    },
+    /// 4: x or y outside its range.
+    Field {
+        /// The record with this fault.
+        record: u32,
+    },
+    /// 5: the records are not one body.
+    Nesting {
+        /// The separator or end that does not fit, or the opener never closed.
+        record: u32,
+    },
+    /// 6: a plain test directly before a kind that adds places.
+    Skip {
+        /// The lowest such test.
+        record: u32,
+    },
+    /// 7: the converted length is above 4,096.
+    Growth,
+    /// 8: a lent buffer is too short.
+    Room,
+    /// 9: a reply byte that is neither 0 nor 1.
+    Reply {
+        /// The first such byte.
+        byte: u32,
+    },
+    /// 10: a machine state that is not sound.
+    State,
+    /// 11: relative to absolute gives a number above 9,999.
+    Far {
+        /// The first such record.
+        record: u32,
+    },
+    /// An answer that this crate has no name for, given as the library gave it.
+    /// It means that the crate and the library were built from different trees.
+    Unknown {
+        /// The library's number.
+        number: u32,
+        /// The library's place.
+        place: u32,
+    },
+}
+
+impl Refusal {
+    /// Gives the library's numbers a name; number 0 is no refusal.
+    pub(crate) fn from_numbers(number: u32, place: u32) -> Option<Refusal> {
+        let record = place;
+        Some(match number {
+            0 => return None,
+            1 => Refusal::Ragged,
+            2 => Refusal::Long,
+            3 => Refusal::Kind { record },
+            4 => Refusal::Field { record },
+            5 => Refusal::Nesting { record },
+            6 => Refusal::Skip { record },
+            7 => Refusal::Growth,
+            8 => Refusal::Room,
+            9 => Refusal::Reply { byte: place },
+            10 => Refusal::State,
+            11 => Refusal::Far { record },
+            _ => Refusal::Unknown { number, place },
+        })
+    }
+
+    /// The paper's number.
+    pub fn number(self) -> u32 {
+        match self {
+            Refusal::Ragged => 1,
+            Refusal::Long => 2,
+            Refusal::Kind { .. } => 3,
+            Refusal::Field { .. } => 4,
+            Refusal::Nesting { .. } => 5,
+            Refusal::Skip { .. } => 6,
+            Refusal::Growth => 7,
+            Refusal::Room => 8,
+            Refusal::Reply { .. } => 9,
+            Refusal::State => 10,
+            Refusal::Far { .. } => 11,
+            Refusal::Unknown { number, .. } => number,
+        }
+    }
+
+    /// The paper's place: a record's or reply byte's number, or 0.
+    pub fn place(self) -> u32 {
+        match self {
+            Refusal::Kind { record }
+            | Refusal::Field { record }
+            | Refusal::Nesting { record }
+            | Refusal::Skip { record }
+            | Refusal::Far { record } => record,
+            Refusal::Reply { byte } => byte,
+            Refusal::Unknown { place, .. } => place,
+            Refusal::Ragged | Refusal::Long | Refusal::Growth | Refusal::Room | Refusal::State => 0,
+        }
+    }
+}
+
+impl fmt::Display for Refusal {
+    fn fmt(&self, f: &mut fmt::Formatter<'_>) -> fmt::Result {
+        match self {
+            Refusal::Ragged => f.write_str(
+                "the byte count is no multiple of 8: the file is cut short or holds something \
+                 else; send whole records of eight bytes",
+            ),
+            Refusal::Long => f.write_str(
+                "too many records: a routine may have 512, a base or relative base 4,096; \
+                 split it",
+            ),
+            Refusal::Kind { record } => write!(
+                f,
+                "record {record} has a kind that this notation does not know, or its byte 1, 6 \
+                 or 7 is not zero: correct the record, or check that the file is of the kind \
+                 you meant"
+            ),
+            Refusal::Field { record } => write!(
+                f,
+                "record {record} has a number outside its range: actions and labels are 1 to \
+                 999, other numbers 0 to 9,999, and a field that the kind does not use is 0"
+            ),
+            Refusal::Nesting { record } => write!(
+                f,
+                "record {record} does not fit its block: a separator or end there has no \
+                 matching open item, or an item opened there is never closed; add or remove \
+                 the missing part"
+            ),
+            Refusal::Skip { record } => write!(
+                f,
+                "the test at record {record} stands directly before a block, loop, call or \
+                 return, which it cannot skip as one record: put another record between them, \
+                 or use a block header for the test"
+            ),
+            Refusal::Growth => f.write_str(
+                "the converted routine would have more than 4,096 records: use fewer returns \
+                 (each adds six places for every record of the routine), calls, blocks or loops",
+            ),
+            Refusal::Room => f.write_str(
+                "a lent buffer is too short: output and working buffer each need eight bytes \
+                 for every converted record (32,768 are always enough), a listing one for each \
+                 of its bytes",
+            ),
+            Refusal::Reply { byte } => write!(
+                f,
+                "reply byte {byte} is neither 0 (no) nor 1 (yes): correct it, also if the run \
+                 would not have come to it"
+            ),
+            Refusal::State => f.write_str(
+                "the state is not sound: the position must be at most the record count, the \
+                 depth at most 96, entries in use at most 9,999 and unused entries 0; hand back \
+                 the state of the step before, or start fresh",
+            ),
+            Refusal::Far { record } => write!(
+                f,
+                "the forward jump at record {record} leads past 9,999, the greatest number that \
+                 an absolute jump can hold: shorten it, or use stop"
+            ),
+            Refusal::Unknown { number, place } => write!(
+                f,
+                "the library gave an answer that this crate does not know (number {number}, \
+                 place {place}): build the library and the crate from the same tree"
+            ),
+        }
+    }
+}
+
+impl Error for Refusal {}
+
+#[cfg(test)]
+mod tests {
+    use super::*;
+
+    #[test]
+    fn numbers_and_places_come_back() {
+        for number in 1..=12 {
+            let refusal = Refusal::from_numbers(number, 7).expect("not 0");
+            assert_eq!(refusal.number(), number);
+            let has_place = ![1, 2, 7, 8, 10].contains(&number);
+            assert_eq!(refusal.place(), if has_place { 7 } else { 0 });
+        }
+        assert_eq!(Refusal::from_numbers(0, 0), None);
+    }
+
+    #[test]
+    fn every_refusal_says_what_to_do() {
+        for number in 1..=12 {
+            let text = Refusal::from_numbers(number, 31)
+                .expect("not 0")
+                .to_string();
+            assert!(text.len() > 40, "{text}");
+            assert!(!text.contains("  "), "{text}");
+        }
+        let skip = Refusal::Skip { record: 31 }.to_string();
+        assert!(skip.starts_with("the test at record 31 stands directly before a block"));
+    }
+}
