@@ -1,8 +1,8 @@
 -- Second level as the code counts it: record by record, by the record's kind.
---     op-getD, own-at, few     the instructions of the file that a stage reads, by the records' numbers
+--     op-getD, own-at     the instructions of the file that a stage reads, by the records' numbers
 --     chain-length, group-length     how long a group is
---     seconds-on, seconds-fits, leads-fits, leads-zero, leads-out, leads-at, past-none, past-last, past-next     what stands before a group, and so where a jump leads
---     stage-is, stage-length     a stage is the groups of the file's records
+--     seconds-on, seconds-fits, leads-fits, leads-zero, leads-out, leads-at, past-none, past-last, past-next, given-none, given-some     what stands before a group, and so where a jump leads
+--     stage-is, stage-length, labels-are     a stage is the groups of the file's records
 use mathlib.Core.Path.{_≡_, refl, sym, ap, _∙_}
 use Prim.Native.Nat.{ℕ, zero, suc, _+_, _-_, _*_, _≤_, _<_}
 use native.Mathlib.Numerals.{add-one}
@@ -15,18 +15,18 @@ use Rattle.rules.specs.Record.{Rec, rec, count, records}
 use Rattle.rules.specs.Numbers.{each, given, past}
 use Rattle.rules.specs.Instruction.{Sort, conditional, loop, Op, act, test, jump, label, goto, goto2, header, separator, end, call, return, written, decode, encode, ops}
 use Rattle.rules.specs.SecondLevel.{Group, _▹_, members, seconds, renumber, sent, laid, removed}
+use Rattle.rules.specs.Labels.{unlabel, labels}
 use Rattle.rules.specs.Calls.{chain, uncall}
 use Rattle.rules.specs.Loops.{unloop}
 use Rattle.rules.specs.Conditionals.{uncond}
 use Rattle.rules.proofs.Records.{ops-length}
 use Rattle.rules.proofs.Instructions.{tabulate}
-use Rattle.rules.proofs.SecondLevel.{each-length, groups, groups-ext, groups-next, groups-grow, groups-map, lowered, stage-groups, seconds-groups, renumber-groups, renumber-zero, renumber-out}
-use Rattle.rules.proofs.Length.{laid-grows}
+use Rattle.rules.proofs.SecondLevel.{each-length, groups, groups-ext, groups-next, groups-grow, groups-map, lowered, stage-groups, seconds-groups, renumber-groups, renumber-zero, renumber-out, single, each-groups}
 use Rattle.records.specs.Reading.{recAt}
 use Rattle.records.proofs.Writing.{rec-getD}
 use Rattle.lower.specs.declared.second_level.Stage.{Stage}
 use Rattle.lower.specs.declared.second_level.Stage.the-variants.{Calls, Loops, Conditionals}
-use Rattle.lower.specs.Stages.{becomes, expanded, leads, group, secondsOf, Asks}
+use Rattle.lower.specs.Stages.{becomes, expanded, leads, group, secondsOf, Own, Asks}
 use Rattle.lower.proofs.Forms.{forms, by-kind}
 
 -- ## The file that a stage reads
@@ -35,20 +35,15 @@ pub op-getD : (s : List ℕ) (k : ℕ) → k < count s → (z : Rec) → getD (o
 unfolding ops
 op-getD s k h z = List·getD-map decode (records s) k z ∙ ap decode (rec-getD s k h z)
 
-module _ {stage : Stage} {s : List ℕ} (a : Asks stage s) where
-  -- A record is that of its instruction.
-  pub own-at : (i : ℕ) → 1 ≤ i → i ≤ count s → encode (decode (recAt s i)) ≡ recAt s i
-  own-at zero l h = absurd (omega arith)
-  own-at (suc k) l h =
-      let z = rec 0 0 0 in
-      ap encode (sym (op-getD s k h z))
-      ∙ sym (List·getD-map encode (ops s) k (decode z))
-      ∙ ap (λ (rs : List Rec). getD rs k (encode (decode z))) (a .own)
-      ∙ rec-getD s k h (encode (decode z))
-
-  pub few : count s ≤ 4096
-  unfolding removed expanded
-  few = omega (arith, a .fits, laid-grows (becomes stage (ops s)) (renumber (expanded stage (ops s))) 1 (ops s), ops-length s)
+-- A record is that of its instruction.
+pub own-at : {s : List ℕ} → Own s → (i : ℕ) → 1 ≤ i → i ≤ count s → encode (decode (recAt s i)) ≡ recAt s i
+own-at a zero l h = absurd (omega arith)
+own-at {s} a (suc k) l h =
+    let z = rec 0 0 0 in
+    ap encode (sym (op-getD s k h z))
+    ∙ sym (List·getD-map encode (ops s) k (decode z))
+    ∙ ap (λ (rs : List Rec). getD rs k (encode (decode z))) (a .own)
+    ∙ rec-getD s k h (encode (decode z))
 
 -- ## How long a group is
 
@@ -150,3 +145,23 @@ module _ (stage : Stage) (s : List ℕ) where
   unfolding past given
   past-next zero z = absurd (z refl)
   past-next (suc k) z = rw add-one
+
+  -- To i + 1 where there is a k.
+  pub given-none : (i : ℕ) {k p : ℕ} → p ≡ k → p ≡ 0 → leads stage (ops s) (given k (suc i)) ≡ 0
+  unfolding given
+  given-none i e z = rw (← e, z) leads-zero
+
+  pub given-some : (i k : ℕ) {p : ℕ} → p ≡ k → ¬ (p ≡ 0) → leads stage (ops s) (i + 1) ≡ leads stage (ops s) (given k (suc i))
+  unfolding given
+  given-some i zero e z = absurd (z e)
+  given-some i (suc k) e z = rw add-one
+
+-- ## Labels
+
+pub labels-are : (s : List ℕ) → map encode (labels (ops s)) ≡ groups (λ i. encode (unlabel (ops s) i (decode (recAt s i))) ∷ []) (count s)
+unfolding labels
+labels-are s =
+    ap (map encode) (each-groups (unlabel (ops s)) (ops s) (decode (rec 0 0 0)))
+    ∙ groups-map encode (single (unlabel (ops s)) (ops s) (decode (rec 0 0 0))) (length (ops s))
+    ∙ ap (groups _) (ops-length s)
+    ∙ groups-ext _ _ (count s) (λ k h. ap (λ (o : Op). encode (unlabel (ops s) (suc k) o) ∷ []) (op-getD s k h (rec 0 0 0)))

@@ -5,7 +5,7 @@ use mathlib.Core.Bool.{cond}
 use mathlib.Core.List.{List, map}
 use lib.ListN.{length}
 use lib.Dec.{eqb}
-use Rattle.rules.specs.Record.{Rec, records}
+use Rattle.rules.specs.Record.{Rec, count, records}
 use Rattle.rules.specs.Numbers.{each}
 use Rattle.rules.specs.Instruction.{Op, decode, encode, ops}
 use Rattle.rules.specs.SecondLevel.{Group, members, renumber, sent, removed}
@@ -43,7 +43,12 @@ secondsOf Calls n kind = cond (eqb kind 15) 1 (cond (eqb kind 16) (5 * n) 0)
 secondsOf Loops n kind = cond (eqb kind 12) 1 (cond (eqb kind 13) 1 0)
 secondsOf Conditionals n kind = cond (eqb kind 8) 1 (cond (eqb kind 9) 1 0)
 
--- What a stage asks of its file: the records are those of its instructions, and what they become is no longer than a base may be.
-pub record Asks (stage : Stage) (s : List ℕ) : Type 0 where
+-- What a stage asks of its file: that its records are those of its instructions, and that it is no longer than a base may be; nor is what
+-- its records become.
+pub record Own (s : List ℕ) : Type 0 where
   pub own : map encode (ops s) ≡ records s
+  pub few : count s ≤ 4096
+
+pub record Asks (stage : Stage) (s : List ℕ) : Type 0 where
+  pub file : Own s
   pub fits : length (removed (expanded stage (ops s))) ≤ 4096

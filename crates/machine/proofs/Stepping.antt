@@ -18,13 +18,11 @@ use Rattle.rules.specs.Stack.{pushed, popped, top}
 use Rattle.rules.specs.Step.{Mem, Out, withStack, go, halt, step}
 use Rattle.rules.specs.Run.{Run, stopped, onward, run}
 use Rattle.rules.specs.Answers.{Called, ran}
-use Rattle.rules.proofs.Runs.{run-at-zero}
 use Rattle.machine.specs.declared.deed.Own.{Own}
 use Rattle.machine.specs.declared.deed.Own.the-variants.{Push, Pop, Compare, Return}
 use Rattle.machine.specs.declared.stack.Told.{Told}
 use Rattle.machine.specs.Asking.{mem}
 use Rattle.machine.specs.Deeds.{owns}
-use Rattle.machine.specs.Moving.{Asks}
 use Rattle.machine.specs.Stacks.{said, told, pushing, popping, comparing}
 use Rattle.machine.specs.Stopping.{stops}
 use Rattle.machine.specs.Stepping.{once, arrived, answered, Owned}
@@ -32,7 +30,7 @@ use Rattle.machine.proofs.Running.{named}
 use Rattle.machine.proofs.Stacks.{popped-some, pushing-full, pushing-yes, popping-none, popping-some, comparing-none, comparing-some}
 use Rattle.machine.proofs.Turning.{push-goes, push-full, pop-none, pop-some, compare-none, compare-yes, compare-no, return-none, return-out, return-in}
 
-pub run-one : (L : List Op) (i : ℕ) (m : Mem) → run L 1 i m ≡ once i m (step L i m)
+run-one : (L : List Op) (i : ℕ) (m : Mem) → run L 1 i m ≡ once i m (step L i m)
 unfolding run once
 run-one L i m = refl
 
@@ -105,28 +103,7 @@ module _ (n i : ℕ) (s : Stack) where
     owned-return q replies log =
         rw (popping-some s t e, ← popped-some s t e) (arrives i (at replies log) _ n t (popped s) 0 replies log (return-in n (at replies log) t e q))
 
--- ## The step of a file
-
-module _ (s : List ℕ) (i : ℕ) (t : Stack) (replies log : List ℕ) (a : Ran) (log′ : List ℕ) where
-  abbrev before : Mem
-  before = mem t replies 0 log 0
-
-  abbrev Says : Type 0
-  Says = Called (ran (run (ops s) 1 i before)) a log′
-
-  pub steps-ended : i ≡ 0 → a ≡ stops Ended 0 t 0 0 0 → log′ ≡ log → Says
-  unfolding ran
-  steps-ended e h q = rw (e, run-at-zero (ops s) 1 before) (record { answers = h; logs = q })
-
-  module _ (k : ℕ) where
-    pub steps-to : log′ ≡ log → ((m : Mem) → step (ops s) i m ≡ go (moveTo (count s) k) m) → a ≡ arrived (count s) k t 0 → Says
-    steps-to q h e = rw (run-one (ops s) i before, e, q) (arrives i before _ (count s) k t 0 replies log (h before))
-
-    pub steps-asked : Asks s i replies 0 log 0 k log′ → a ≡ arrived (count s) k t 1 → Says
-    steps-asked h e = rw (run-one (ops s) i before, e) (arrives i before _ (count s) k t 1 replies log′ (h .goes t))
-
-  pub steps-stops : (w : Status) → log′ ≡ log → ((r : Stack) → step (ops s) i (mem r replies 0 log 0) ≡ halt w) → a ≡ stops w i t 0 0 0 → Says
-  steps-stops w q h e = rw (run-one (ops s) i before, e, q) (halted i before _ w (h t))
-
-  pub steps-own : (o : Own) → log′ ≡ log → ((m : Mem) → step (ops s) i m ≡ owns (count s) o m) → Owned (count s) o i t a → Says
-  steps-own o q h e = rw (run-one (ops s) i before, h before, q) (e replies log)
+-- The step of a file where it is the stack's turn.
+pub steps-own : (s : List ℕ) (i : ℕ) (t : Stack) (replies log : List ℕ) (a : Ran) (log′ : List ℕ) (o : Own) → log′ ≡ log
+    → ((m : Mem) → step (ops s) i m ≡ owns (count s) o m) → Owned (count s) o i t a → Called (ran (run (ops s) 1 i (mem t replies 0 log 0))) a log′
+steps-own s i t replies log a log′ o q h e = rw (run-one (ops s) i (mem t replies 0 log 0), h (mem t replies 0 log 0), q) (e replies log)

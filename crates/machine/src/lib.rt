@@ -21,7 +21,6 @@ use run::drive;
 use shape::check_routine;
 use state::no_state;
 use state::start;
-use step::step;
 ghost use Rattle.rules.specs.Answers.{Called, runRoutine, runBase, stepRoutine, stepBase};
 
 // Runs a routine from its start: checks 1 to 7, then 9.
@@ -59,7 +58,10 @@ pub fn step_routine(routine: &[u8], replies: &[u8], log: &mut [u8], state: State
     let verdict = with_state(with_replies(check_routine(routine), replies), state);
     match verdict {
         Verdict::Refused(r) => turned_away(r, state),
-        Verdict::Accepted(_) => step(routine, replies, log, state),
+        Verdict::Accepted(_) => {
+            let none = [0usize; 1];
+            drive(routine, &none[..0], replies, log, state, 1)
+        }
     }
 }
 
@@ -70,6 +72,9 @@ pub fn step_base(base: &[u8], replies: &[u8], log: &mut [u8], state: State) -> R
     let verdict = with_state(with_replies(check_base(base), replies), state);
     match verdict {
         Verdict::Refused(r) => turned_away(r, state),
-        Verdict::Accepted(_) => step(base, replies, log, state),
+        Verdict::Accepted(_) => {
+            let none = [0usize; 1];
+            drive(base, &none[..0], replies, log, state, 1)
+        }
     }
 }

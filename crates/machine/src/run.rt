@@ -5,6 +5,7 @@ use crate::deed::deed_at;
 use crate::outside::Said;
 use crate::outside::outside;
 use crate::place::names;
+use crate::step::own_step;
 use crate::turn::Turned;
 use crate::turn::turn;
 use rules::Outcome;
@@ -74,7 +75,8 @@ pub fn stop(status: Status, at: usize, stack: Stack, steps: u64, used: usize, lo
     }
 }
 
-// Statuses are tried in the order 1, 5, 2, 3, 4. A move to any number outside 1..n sets position 0, which means ended.
+// Statuses are tried in the order 1, 5, 2, 3, 4. A move to any number outside 1..n sets position 0, which means ended. A single step
+// hands the counter stack on by value; a longer run works on it in place.
 pub fn drive(
     s: &[u8],
     places: &[usize],
@@ -132,6 +134,9 @@ pub fn drive(
                 return stop(w, at, Stack { entries, depth }, steps, used, logged);
             }
             Moved::OnStack(own) => {
+                if budget == 1 {
+                    return own_step(n, own, at, Stack { entries, depth });
+                }
                 let turned = turn(n, own, &mut entries, depth);
                 match turned {
                     Turned::To(k, d) => {

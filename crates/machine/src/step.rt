@@ -1,8 +1,6 @@
-// One step from a given state, with the counter stack by value.
+// The counter stack's own deeds by value, as a single step does them: each hands back the whole counter stack.
 use crate::deed::Own;
 use crate::place::names;
-use crate::run::Moved;
-use crate::run::move_on;
 use crate::run::stop;
 use crate::stack::Counters;
 use crate::stack::Reply;
@@ -10,15 +8,9 @@ use crate::stack::Told;
 use crate::turn::wide;
 use rules::Ran;
 use rules::Stack;
-use rules::State;
 use rules::Status;
 ghost use mathlib.Core.Path.{_≡_};
-ghost use mathlib.Core.List.{List};
-ghost use Prim.Native.Nat.{ℕ, _≤_};
-ghost use Rattle.rules.specs.Record.{count};
-ghost use Rattle.rules.specs.Instruction.{ops};
-ghost use Rattle.rules.specs.Run.{run};
-ghost use Rattle.rules.specs.Answers.{Called, ran, memAt};
+ghost use Prim.Native.Nat.{_≤_};
 ghost use Rattle.machine.specs.declared.deed.Own.the-variants.{Return};
 ghost use Rattle.machine.specs.Stepping.{arrived, answered, Owned};
 
@@ -63,7 +55,7 @@ fn go_back(n: usize, at: usize, stack: Stack) -> Ran
 }
 
 // A deed of the counter stack's own.
-fn own_step(n: usize, own: Own, at: usize, stack: Stack) -> Ran
+pub fn own_step(n: usize, own: Own, at: usize, stack: Stack) -> Ran
     requires { ⌜ stack .depth ≤ 96 ⌝ }
     ensures { λ r. ⌜ Owned n own at stack r ⌝ }
 {
@@ -73,26 +65,5 @@ fn own_step(n: usize, own: Own, at: usize, stack: Stack) -> Ran
         Own::Pop(yes, no) => answer(n, at, counters.pop(), yes, no),
         Own::Compare(y, yes, no) => answer(n, at, counters.top_is(y), yes, no),
         Own::Return => go_back(n, at, stack),
-    }
-}
-
-// A single step is a run with budget 1.
-pub fn step(s: &[u8], replies: &[u8], log: &mut [u8], from: State) -> Ran
-    requires { ⌜ (from .at ≤ count (now s)) × (count (now s) ≤ 4096) × (from .stack .depth ≤ 96) ⌝ }
-    ensures { λ r. ⌜ Called (ran (run (ops (now (s .entry))) 1 (from .at) (memAt from (now (replies .entry)) (now (log .entry))))) r (now (log .exit)) ⌝ }
-{
-    let n = s.len() / 8;
-    let at = from.at;
-    let stack = from.stack;
-    if at == 0 {
-        return stop(Status::Ended, 0, stack, 0, 0, 0);
-    }
-    let none = [0usize; 1];
-    let moved = move_on(s, &none[..0], replies, log, at, 0, 0);
-    match moved {
-        Moved::To(k) => arrive(n, k, stack, 0),
-        Moved::Asked(k) => arrive(n, k, stack, 1),
-        Moved::Stops(w) => stop(w, at, stack, 0, 0, 0),
-        Moved::OnStack(own) => own_step(n, own, at, stack),
     }
 }

@@ -16,7 +16,7 @@ use Rattle.rules.specs.Refusals.{when, whenAt, orElse, first, verdictOf, verdic
 use Rattle.rules.specs.Checks.{most, recordChecks}
 use Rattle.rules.specs.Relative.{far}
 use Rattle.rules.specs.Answers.{short, checkRecords, filled, relating, absoluting, Translated}
-use Rattle.rules.proofs.Refusals.{refused-then, accepted-then, accepted-count, accepted-none, Fine, fine}
+use Rattle.rules.proofs.Refusals.{refused-then, accepted-then, held}
 use Rattle.records.specs.Writing.{Wrote}
 use Rattle.records.proofs.Writing.{filled-by}
 
@@ -26,11 +26,6 @@ turned-away e = record { answers = sym e; output = rw e }
 
 pub translated : {v : Verdict} {n : ℕ} {rs : List Rec} {o w : List ℕ} {k : ℕ} → v ≡ Accepted n → n ≡ length rs → Wrote rs o w k → Translated v rs o (Accepted n) w
 translated e l w = record { answers = sym e; output = filled-by e l w }
-
--- What is known of a file that was accepted.
-pub accepted : (nt : Notation) (s : List ℕ) {n : ℕ} → checkRecords nt s ≡ Accepted n → Fine nt s × (n ≡ count s)
-unfolding checkRecords
-accepted nt s e = (fine nt s (accepted-none (recordChecks nt s) (count s) e), accepted-count (recordChecks nt s) (count s) e)
 
 -- 8 is the last check.
 room-short : (n : ℕ) (o : List ℕ) → length o < 8 * n → verdict (when (short n o) Room ∷ []) n ≡ Refused Room
@@ -53,7 +48,7 @@ module _ (s o : List ℕ) where
   module _ {n : ℕ} (e : checkRecords Base s ≡ Accepted n) where
     relating-room : relating s o ≡ verdict (when (short n o) Room ∷ []) n
     unfolding checkRecords relating
-    relating-room = rw (accepted Base s e .1) (accepted-then (recordChecks Base s) (count s) _ _ e)
+    relating-room = rw (sym (held Base s _ e .counted)) (accepted-then (recordChecks Base s) (count s) _ _ e)
 
     pub relating-short : length o < 8 * n → relating s o ≡ Refused Room
     relating-short l = relating-room ∙ room-short n o l
@@ -64,7 +59,7 @@ module _ (s o : List ℕ) where
   module _ {n : ℕ} (e : checkRecords Relative s ≡ Accepted n) where
     far-first : absoluting s o ≡ verdict (whenAt Far (far (records s)) ∷ when (short n o) Room ∷ []) n
     unfolding checkRecords absoluting
-    far-first = rw (accepted Relative s e .1) (accepted-then (recordChecks Relative s) (count s) _ _ e)
+    far-first = rw (sym (held Relative s _ e .counted)) (accepted-then (recordChecks Relative s) (count s) _ _ e)
 
     pub absoluting-far : {p : ℕ} → p ≡ far (records s) → ¬ (p ≡ 0) → absoluting s o ≡ Refused (Far p)
     unfolding verdict verdictOf first orElse whenAt

@@ -60,11 +60,11 @@ given-in zero x n h = omega arith
 given-in (suc k) x n h = h
 
 module _ (L : List Op) (n : ℕ) (l : length L ≤ n) where
-  target-in : (s : ℕ) → target L s ≤ n + 1
+  pub target-in : (s : ℕ) → target L s ≤ n + 1
   unfolding target labelAfter
   target-in s = omega (arith, label-in s 1 L)
 
-  target2-in : (s t : ℕ) → target2 L s t ≤ n + 2
+  pub target2-in : (s t : ℕ) → target2 L s t ≤ n + 2
   unfolding target2 labelAfter
   target2-in s t = given-in (target L s) _ (n + 2) (omega (arith, label-in t (suc (target L s)) (drop (target L s) L), length-drop (target L s) L, target-in s))
 

@@ -3,6 +3,7 @@
 --     accepted-count, accepted-none, none-first, none-then     what is accepted, and that no check of it found anything
 --     when-none, whenAt-none     a check that finds nothing: its test is false, its place 0
 --     Fine, fine     no refusal 1 to 4: no bytes left over, not too many records, none with a fault
+--     Held, held, Admitted, admitted     an accepted file, and an accepted routine
 use mathlib.Core.Path.{_≡_, refl, sym, ap, _∙_}
 use Prim.Native.Nat.{ℕ, zero, suc, _%_, _≤_}
 use native.Mathlib.Omega.{arith}
@@ -13,12 +14,17 @@ use lib.ListN.{length}
 use lib.Dec.{eqb}
 use borrow.Author.Tests.{not-false, eqb-true, ltb-false}
 use Rattle.rules.specs.declared.Notation.{Notation}
+use Rattle.rules.specs.declared.Notation.the-variants.{Routine}
 use Rattle.rules.specs.declared.Refusal.{Refusal}
 use Rattle.rules.specs.declared.Refusal.the-variants.{Ragged, Long}
 use Rattle.rules.specs.declared.Verdict.the-variants.{Accepted, Refused}
 use Rattle.rules.specs.Refusals.{when, whenAt, orElse, first, verdictOf, verdict}
 use Rattle.rules.specs.Record.{count}
+use Rattle.rules.specs.Instruction.{ops}
 use Rattle.rules.specs.Checks.{ragged, most, long, faultFrom, recordChecks}
+use Rattle.rules.specs.Nesting.{nesting}
+use Rattle.rules.specs.Skip.{skip, convertedLength, grown}
+use Rattle.rules.specs.Answers.{routineChecks, checkRecords, checkRoutine}
 
 pub or-none : (c : Option Refusal) → orElse c none ≡ c
 unfolding orElse
@@ -97,4 +103,42 @@ fine nt s e =
       even = eqb-true _ 0 (not-false _ (when-none _ _ (none-first _ _ e)));
       few = ltb-false _ _ (when-none _ _ (none-first _ _ e2));
       faultless = none-first _ [] (none-then (when (long nt s) Long) _ e2);
+    }
+
+-- ## What is accepted
+
+pub record Held (nt : Notation) (s : List ℕ) (n : ℕ) : Type 0 where
+  pub fines : Fine nt s
+  pub counted : count s ≡ n
+
+pub held : (nt : Notation) (s : List ℕ) (n : ℕ) → checkRecords nt s ≡ Accepted n → Held nt s n
+unfolding checkRecords
+held nt s n e = record { fines = fine nt s (accepted-none _ (count s) e); counted = sym (accepted-count (recordChecks nt s) (count s) e) }
+
+pub record Admitted (s : List ℕ) (n : ℕ) : Type 0 where
+  pub fines : Fine Routine s
+  pub counted : count s ≡ n
+  pub nested : nesting (ops s) ≡ 0
+  pub allowed : skip (ops s) ≡ 0
+  pub room : convertedLength (ops s) ≤ 4096
+
+apart : (cs ds : List (Option Refusal)) → first (cs ++ ds) ≡ none → (first cs ≡ none) × (first ds ≡ none)
+unfolding orElse
+apart cs ds e = by (first cs) refl (sym (first-append cs ds) ∙ e)
+  where
+    by : (c : Option Refusal) → first cs ≡ c → orElse c (first ds) ≡ none → (first cs ≡ none) × (first ds ≡ none)
+    by none q e = (q, e)
+    by (some r) q e = absurd (let z : _≡_ {A = ℕ} 0 1 = cc in omega arith)
+
+pub admitted : (s : List ℕ) (n : ℕ) → checkRoutine s ≡ Accepted n → Admitted s n
+unfolding checkRoutine routineChecks grown
+admitted s n e =
+    let a = apart (recordChecks Routine s) _ (accepted-none _ (count s) e) in
+    let b = none-then _ _ (a .1) in
+    record {
+      fines = fine Routine s (a .0);
+      counted = sym (accepted-count (routineChecks s) (count s) e);
+      nested = whenAt-none _ _ (none-first _ _ (a .1));
+      allowed = whenAt-none _ _ (none-first _ _ b);
+      room = ltb-false _ _ (when-none _ _ (none-first _ _ (none-then _ _ b)));
     }

@@ -8,7 +8,8 @@ use Rattle.rules.specs.Relative.{absoluteAt, toAbsolute, far}
 use Rattle.rules.specs.Answers.{checkRecords}
 use Rattle.rules.proofs.Records.{records-length}
 use Rattle.rules.proofs.SecondLevel.{each-length}
-use Rattle.relative.proofs.Translations.{accepted, turned-away, translated, absoluting-refused, absoluting-far, absoluting-short, absoluting-enough}
+use Rattle.rules.proofs.Refusals.{held}
+use Rattle.relative.proofs.Translations.{turned-away, translated, absoluting-refused, absoluting-far, absoluting-short, absoluting-enough}
 use Rattle.relative.proofs.to_absolute.Statement.{statement}
 use Rattle.relative.proofs.to_absolute.Tie as tie
 
@@ -25,7 +26,7 @@ returns-4 c =
     let k = e .before .before in
     let s = k .before .before .before .before .before .before .args .relative .now in
     translated (absoluting-enough _ _ (was-accepted k) (none-far e) (c .before .before .before .before .if2 .left))
-    (accepted Relative s (was-accepted k) .1 ∙ sym (records-length s) ∙ sym (each-length absoluteAt 1 (records s))) (c .before .before .write-all-absolute .ensures)
+    (sym (held Relative s _ (was-accepted k) .counted) ∙ sym (records-length s) ∙ sym (each-length absoluteAt 1 (records s))) (c .before .before .write-all-absolute .ensures)
 
 pub to-absolute-spec : {M : Type 1} → statement M
 to-absolute-spec =
@@ -36,9 +37,9 @@ to-absolute-spec =
     (λ c. search needs)
     (λ c κs. search needs)
     (λ c. turned-away (absoluting-far _ _ (was-accepted (c .before .before)) (c .before .first-far .ensures) (c .if1 .taken)))
-    (λ c. omega (arith, accepted Relative _ (was-accepted (c .before .before)) .1))
+    (λ c. omega (arith, held Relative _ _ (was-accepted (c .before .before)) .counted))
     (λ c. turned-away (absoluting-short _ _ (was-accepted (c .before .before .before)) (none-far (c .before)) (c .if2 .taken)))
-    (λ c κs. (none-far (c .before .before), omega (arith, accepted Relative _ (was-accepted (c .before .before .before .before)) .1)))
+    (λ c κs. (none-far (c .before .before), omega (arith, held Relative _ _ (was-accepted (c .before .before .before .before)) .counted)))
     (λ c. turned-away (absoluting-refused _ _ (sym (c .before .before .before .check-relative .ensures) ∙ c .before .checked .given .1)))
     (λ c. search needs)
     returns-4)

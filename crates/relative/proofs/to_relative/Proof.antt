@@ -10,7 +10,8 @@ use Rattle.rules.specs.Relative.{relativeAt, toRelative}
 use Rattle.rules.specs.Answers.{checkRecords}
 use Rattle.rules.proofs.Records.{records-length}
 use Rattle.rules.proofs.SecondLevel.{each-length}
-use Rattle.relative.proofs.Translations.{accepted, turned-away, translated, relating-refused, relating-short, relating-enough}
+use Rattle.rules.proofs.Refusals.{held}
+use Rattle.relative.proofs.Translations.{turned-away, translated, relating-refused, relating-short, relating-enough}
 use Rattle.relative.proofs.to_relative.Statement.{statement}
 use Rattle.relative.proofs.to_relative.Tie as tie
 
@@ -19,7 +20,7 @@ was-accepted c = sym (c .before .before .before .check-base .ensures) ∙ c .bef
 
 write-all-relative-requires : tie.Need-write-all-relative-requires
 unfolding most
-write-all-relative-requires c κs = let a = accepted Base _ (was-accepted (c .before .before)) in (a .0 .few, omega arith)
+write-all-relative-requires c κs = let h = held Base _ _ (was-accepted (c .before .before)) in omega (arith, h .counted, h .fines .few)
 
 returns-3 : tie.Need-returns-3
 unfolding toRelative
@@ -27,7 +28,7 @@ returns-3 c =
     let k = c .before .before .before .before .before in
     let s = k .before .before .before .before .before .before .args .base .now in
     translated (relating-enough _ _ (was-accepted k) (c .before .before .before .before .if1 .left))
-    (accepted Base s (was-accepted k) .1 ∙ sym (records-length s) ∙ sym (each-length relativeAt 1 (records s))) (c .before .before .write-all-relative .ensures)
+    (sym (held Base s _ (was-accepted k) .counted) ∙ sym (records-length s) ∙ sym (each-length relativeAt 1 (records s))) (c .before .before .write-all-relative .ensures)
 
 pub to-relative-spec : {M : Type 1} → statement M
 to-relative-spec =
@@ -36,7 +37,7 @@ to-relative-spec =
     (λ c κs. search needs)
     (λ c. search needs)
     (λ c. search needs)
-    (λ c. omega (arith, accepted Base _ (was-accepted c) .1))
+    (λ c. omega (arith, held Base _ _ (was-accepted c) .counted))
     (λ c. turned-away (relating-short _ _ (was-accepted (c .before)) (c .if1 .taken)))
     write-all-relative-requires
     (λ c. turned-away (relating-refused _ _ (sym (c .before .before .before .check-base .ensures) ∙ c .before .checked .given .1)))

@@ -9,7 +9,6 @@ use borrow.Fn.PlainCycle.{Measures, is, falls, and}
 use Rattle.rules.specs.Instruction.{ops}
 use Rattle.records.proofs.Writing.{eight, put, one, wrote-length, more}
 use Rattle.lower.specs.Stages.{chainOf}
-use Rattle.lower.proofs.Places.{few}
 use Rattle.lower.proofs.Chains.{chainOf-length, chain-link, chain-last}
 use Rattle.lower.proofs.calls.write_chain.Reads as write-chain
 use Rattle.lower.proofs.calls.write_chain.Kinds as write-chain-kinds
@@ -51,7 +50,7 @@ pub +write-chain-spec : {M : Type 1} → statement M
 +write-chain-spec = close μ-write-chain λ t. lts.spec (given t)
     (write-chain-at t)
     write-chain.Post
-    (λ c. omega (arith, few (c .before .before .before .pre .1 .0)))
+    (λ c. omega (arith, c .before .before .before .pre .1 .0 .file .few))
     (λ c κs. c .before .before .before .pre .1 .0)
     (λ c κs. omega (arith, room t (c .before .before .before .before)))
     (λ c. omega (arith, room t (c .before .before .before .before .before .before .before .before)))

@@ -11,7 +11,6 @@ use Rattle.records.specs.Reading.{recAt}
 use Rattle.records.proofs.Writing.{wrote-as}
 use Rattle.lower.specs.declared.second_level.Stage.the-variants.{Calls}
 use Rattle.lower.specs.Stages.{leads, group, chainOf}
-use Rattle.lower.proofs.Places.{few}
 use Rattle.lower.proofs.Groups.{call-group, return-group, calls-keep}
 use Rattle.lower.proofs.calls.write_group.Statement.{statement}
 use Rattle.lower.proofs.calls.write_group.Tie as tie
@@ -33,7 +32,7 @@ write-group-spec =
     (tie.spec
     (λ c κs. search needs)
     (λ c. search needs)
-    (λ c. omega (arith, few (c .before .before .before .before .before .pre .0)))
+    (λ c. omega (arith, c .before .before .before .before .before .pre .0 .file .few))
     (λ c κs. search needs)
     (λ c. search needs)
     (λ c κs. search needs)

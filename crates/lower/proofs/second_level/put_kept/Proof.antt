@@ -28,5 +28,5 @@ put-kept-spec =
     let x = y .before .before .before in
     let a = x .before .before .before .before in
     one
-    (sent-other _ _ (x .before .kind-at .ensures) (own-at (a .pre .0) (a .args .i) (search needs) (search needs)) (y .before .before .if1 .left) ∙ copied (x .before .kind-at .ensures) (x .x-at .ensures) (y .y-at .ensures))
+    (sent-other _ _ (x .before .kind-at .ensures) (own-at (a .pre .0 .file) (a .args .i) (search needs) (search needs)) (y .before .before .if1 .left) ∙ copied (x .before .kind-at .ensures) (x .x-at .ensures) (y .y-at .ensures))
     (c .before .before .put-record2 .ensures) (search needs)))

@@ -5,7 +5,7 @@ use borrow.Author.Needs.{needs}
 use Rattle.rules.specs.Instruction.{ops}
 use Rattle.rules.specs.SecondLevel.{seconds}
 use Rattle.lower.specs.Stages.{expanded}
-use Rattle.lower.proofs.Places.{few, seconds-on, seconds-fits}
+use Rattle.lower.proofs.Places.{seconds-on, seconds-fits}
 use Rattle.lower.proofs.second_level.seconds_before.Statement.{statement}
 use Rattle.lower.proofs.second_level.seconds_before.Tie as tie
 
@@ -32,7 +32,7 @@ seconds-before-spec =
     loop-holds
     (λ c. omega arith)
     (λ c κs. search needs)
-    (λ c κs. few (c .before .before .before .before .pre .0))
+    (λ c κs. c .before .before .before .before .pre .0 .file .few)
     (λ c. let a = c .before .before .before .before .before in omega (arith, next c, seconds-fits (a .args .stage) (a .args .s .now) (a .pre .0) (c .before .before .before .loop .i + 1) (omega arith)))
     (λ c. omega arith)
     (λ c. omega arith)

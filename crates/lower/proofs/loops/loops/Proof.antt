@@ -1,0 +1,52 @@
+use mathlib.Core.Path.{_≡_}
+use Prim.Native.Nat.{_+_, _-_, _*_, _≤_}
+use native.Mathlib.Omega.{arith}
+use borrow.Author.Needs.{needs}
+use lib.ListN.{length}
+use Rattle.rules.specs.Loops.{loops}
+use Rattle.records.proofs.Writing.{Written, start, room-for, turn, finish, wrote-as, wrote-length}
+use Rattle.lower.specs.declared.second_level.Stage.the-variants.{Loops}
+use Rattle.lower.specs.Stages.{group, becomes, expanded}
+use Rattle.lower.proofs.Places.{stage-is, stage-length}
+use Rattle.lower.proofs.loops.loops.Statement.{statement}
+use Rattle.lower.proofs.loops.loops.Tie as tie
+
+abbrev Inv-loop : tie.InvT-loop
+Inv-loop s out₀ n at₀ i₀ out at i = Written (group Loops s) n out₀ out at i
+
+abbrev μ-loop : tie.MeasureT-loop
+μ-loop s out₀ n at₀ i₀ out at i = n - i
+
+room : (c : tie.In-loop Inv-loop μ-loop) → let l = c .before .loop in l .at + 8 * length (group Loops (c .before .before .before .before .args .s .now) (l .i + 1)) ≤ length (l .out)
+unfolding loops becomes expanded
+room c =
+    let b = c .before .before .before .before in
+    room-for (c .before .loop .inv) (omega (arith, b .pre .1, stage-length Loops (b .args .s .now))) (c .loop-test .taken)
+
+loop-again : tie.Need-loop-again Inv-loop μ-loop
+loop-again c =
+    let h = c .before .before .before .before in
+    turn (h .before .loop .inv) (h .loop-test .taken) (c .before .before .write-group .ensures) (search needs)
+
+returns : tie.Need-returns Inv-loop μ-loop
+unfolding loops becomes expanded
+returns c = wrote-as (stage-is Loops _) (finish (c .before .loop .inv) (c .loop-test .left))
+
+pub loops-spec : {M : Type 1} → statement M
+loops-spec =
+    tie.close
+    (tie.spec
+    Inv-loop
+    μ-loop
+    (λ c. start _ _ _)
+    (λ c. omega arith)
+    (λ c. omega (arith, room c))
+    (λ c. omega (arith, room c))
+    (λ c. search needs)
+    (λ c κs. (c .before .before .before .before .before .pre .0, omega arith, omega arith, omega (arith, room (c .before))))
+    (λ c. omega (arith, room (c .before .before .before .before), wrote-length (c .before .before .write-group .ensures)))
+    (λ c. omega arith)
+    (λ c. omega arith)
+    loop-again
+    (λ c. c .before .loop .inv .same)
+    returns)
