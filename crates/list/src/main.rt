@@ -2,6 +2,7 @@
 use libc::STDIN_FILENO;
 use libc::STDOUT_FILENO;
 use rules::Refusal;
+use rules::Verdict;
 ghost use Prim.Native.Nat.{_≤_};
 
 // Reads once more past the buffer, and answers how many bytes came: 0 where the input ends, or cannot be read.
@@ -36,6 +37,19 @@ fn refuse(refusal: Refusal) {
     io::write_all(STDOUT_FILENO, &line[..length]);
 }
 
+// The listing, for which 73,744 bytes have room whatever the routine is, or the line of its refusal.
+fn print(routine: &[u8]) {
+    let mut text = [0u8; 73744];
+    let listed = listing::list(routine, &mut text);
+    match listed {
+        Verdict::Refused(refusal) => refuse(refusal),
+        Verdict::Accepted(length) => {
+            io::write_all(STDOUT_FILENO, &text[..length]);
+        }
+    }
+}
+
+// A routine has at most 4,096 bytes. Of a longer input only its length matters, so the rest is read and let go.
 fn main() {
     let mut input = io::buffer();
     let length = io::read_full(STDIN_FILENO, &mut input);
@@ -50,5 +64,5 @@ fn main() {
             return;
         }
     }
-    refuse(Refusal::Room);
+    print(&input[..length]);
 }
