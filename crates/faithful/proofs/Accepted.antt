@@ -1,64 +1,17 @@
--- What an accepted file is, and that a file of proper records is accepted: the checks taken apart and put together again.
-use mathlib.Core.Path.{_≡_, refl, sym, _∙_}
+-- A file of proper records is accepted: the checks put together again. (What an accepted file is stands in `rules`' laws of refusals.)
+use mathlib.Core.Path.{_≡_, refl}
 use Prim.Native.Nat.{_≤_, _<_}
 use native.Mathlib.Omega.{arith}
-use borrow.Author.Tests.{ltb-false, le-ltb, eq-eqb}
-use Rattle.rules.specs.Words.{ℕ, suc, _+_, _*_, _/_, _%_, true, false, Option, none, some, List, [], _∷_, _++_, length}
+use borrow.Author.Tests.{le-ltb, eq-eqb}
+use Rattle.rules.specs.Words.{ℕ, suc, _+_, _*_, _/_, _%_, true, false, none, List, [], _∷_, _++_, length}
 use Rattle.rules.specs.declared.Notation.{Notation}
-use Rattle.rules.specs.declared.Notation.the-variants.{Routine}
-use Rattle.rules.specs.declared.Refusal.{Refusal}
 use Rattle.rules.specs.declared.Verdict.the-variants.{Accepted}
-use Rattle.rules.specs.Record.{Rec, recordBytes, bytesOf, count}
+use Rattle.rules.specs.Record.{Rec, recordBytes, bytesOf}
 use Rattle.rules.specs.Table.{rowOf}
-use Rattle.rules.specs.Instruction.{ops}
 use Rattle.rules.specs.Refusals.{when, orElse, first, verdictOf, verdict}
 use Rattle.rules.specs.Checks.{ragged, most, long, listed, kindFault, fieldFault, fault, faultFrom, recordChecks}
-use Rattle.rules.specs.Nesting.{nesting}
-use Rattle.rules.specs.Skip.{skip, convertedLength, grown}
-use Rattle.rules.specs.Answers.{routineChecks, checkRecords, checkRoutine}
+use Rattle.rules.specs.Answers.{checkRecords}
 use Rattle.rules.proofs.Records.{All, Small, bytes-length, bytes-count}
-use Rattle.rules.proofs.Refusals.{first-append, accepted-none, accepted-count, none-first, none-then, when-none, whenAt-none, Fine, fine}
-use Rattle.faithful.proofs.Inner.Places.{clash}
-
--- ## What is accepted
-
-pub record Held (nt : Notation) (s : List ℕ) (n : ℕ) : Type 0 where
-  pub fines : Fine nt s
-  pub counted : count s ≡ n
-
-pub held : (nt : Notation) (s : List ℕ) (n : ℕ) → checkRecords nt s ≡ Accepted n → Held nt s n
-unfolding checkRecords
-held nt s n e = record { fines = fine nt s (accepted-none _ (count s) e); counted = sym (accepted-count (recordChecks nt s) (count s) e) }
-
-pub record Admitted (s : List ℕ) (n : ℕ) : Type 0 where
-  pub fines : Fine Routine s
-  pub counted : count s ≡ n
-  pub nested : nesting (ops s) ≡ 0
-  pub allowed : skip (ops s) ≡ 0
-  pub room : convertedLength (ops s) ≤ 4096
-
-apart : (cs ds : List (Option Refusal)) → first (cs ++ ds) ≡ none → (first cs ≡ none) × (first ds ≡ none)
-unfolding orElse
-apart cs ds e = by (first cs) refl (sym (first-append cs ds) ∙ e)
-  where
-    by : (c : Option Refusal) → first cs ≡ c → orElse c (first ds) ≡ none → (first cs ≡ none) × (first ds ≡ none)
-    by none q e = (q, e)
-    by (some r) q e = clash cc
-
-pub admitted : (s : List ℕ) (n : ℕ) → checkRoutine s ≡ Accepted n → Admitted s n
-unfolding checkRoutine routineChecks grown
-admitted s n e =
-    let a = apart (recordChecks Routine s) _ (accepted-none _ (count s) e) in
-    let b = none-then _ _ (a .1) in
-    record {
-      fines = fine Routine s (a .0);
-      counted = sym (accepted-count (routineChecks s) (count s) e);
-      nested = whenAt-none _ _ (none-first _ _ (a .1));
-      allowed = whenAt-none _ _ (none-first _ _ b);
-      room = ltb-false _ _ (when-none _ _ (none-first _ _ (none-then _ _ b)));
-    }
-
--- ## What is to be accepted
 
 -- A record of the notation, with its fields in range.
 pub record Proper (nt : Notation) (r : Rec) : Type 0 where

@@ -24,7 +24,8 @@ use Rattle.rules.proofs.Fits.{stages-fit, fit-ops}
 use Rattle.faithful.specs.Promises.{Length, BaseAccepted}
 use Rattle.faithful.proofs.Inner.Turns.{rank, Good, FromOne, Numbered}
 use Rattle.faithful.proofs.Demand.{converted}
-use Rattle.faithful.proofs.Accepted.{admitted, Proper, accepted}
+use Rattle.rules.proofs.Refusals.{admitted}
+use Rattle.faithful.proofs.Accepted.{Proper, accepted}
 use Rattle.faithful.proofs.Inner.Places.{clash}
 
 -- ## An accepted routine's outside actions are numbered from 1 on

@@ -20,7 +20,7 @@ use Rattle.rules.specs.Cases.{there-and-back}
 use Rattle.rules.proofs.Records.{ops-length}
 use Rattle.rules.proofs.Computes.{computes}
 use Rattle.faithful.specs.Promises.{Follows, Demand3, RunFollows, Demand3Run, Demand3File}
-use Rattle.faithful.proofs.Accepted.{admitted}
+use Rattle.rules.proofs.Refusals.{admitted}
 use Rattle.faithful.proofs.Inner.Places.{clash, place}
 use Rattle.faithful.proofs.Inner.Simulation.{forkCost, linkCost, cost, costOf, costAt, Way, stay, on, Sim, both, lift, go-halt, at-in}
 use Rattle.faithful.proofs.Inner.Turns.{rank, Good}

@@ -14,7 +14,7 @@ use Rattle.rules.specs.Partners.{Role, opens, ends, roleOf, role, endAt, separa
 use Rattle.rules.proofs.Partners.{backAt, back}
 use Rattle.faithful.specs.Items.{Stands, loop-item, one-arm, two-arms, Partnered, Belongs, by-itself, as-header, as-separator, as-end}
 use Rattle.faithful.specs.Promises.{Partners, PartnersFile}
-use Rattle.faithful.proofs.Accepted.{admitted}
+use Rattle.rules.proofs.Refusals.{admitted}
 use Rattle.faithful.proofs.Grammar.{grammar}
 use Rattle.faithful.proofs.Inner.Places.{clash, over, over-suc, over-length}
 use Rattle.faithful.proofs.Inner.Reading.{From, whole, next, from-drop, drop-at, from-of, from-over, seek, seeks-end, seeks-separator, seek-body, end-of, separator-of, back-one, back-body, header-of}

@@ -21,7 +21,8 @@ use Rattle.rules.proofs.SecondLevel.{each-length}
 use Rattle.rules.proofs.Instructions.{FitAct, Fit, fit-small, accepted-back, accepted-fit, no-faults, accepted-bytes}
 use Rattle.faithful.specs.Promises.{RelativeAndBack}
 use Rattle.faithful.proofs.Inner.Places.{clash, in-or-out}
-use Rattle.faithful.proofs.Accepted.{held, Proper, accepted}
+use Rattle.rules.proofs.Refusals.{held}
+use Rattle.faithful.proofs.Accepted.{Proper, accepted}
 
 -- ## A record at i
 

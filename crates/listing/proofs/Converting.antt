@@ -1,4 +1,5 @@
 -- From what a conversion into two arrays of 32,768 bytes answers to what a listing does.
+--     text-length     a routine that is not refused has a text of at most 73,744 bytes
 --     refused-as     a refusal of the conversion is one of the routine, and the listing's own
 --     Base, base-of     an accepted conversion: how many records, and the text that is printed from them, which has its room
 --     listed-as     what was printed from them is the listing
@@ -36,21 +37,26 @@ use Rattle.listing.proofs.Lengths.{all-narrow, listing-length}
 abbrev alone : List ℕ → Verdict
 alone s = verdict (routineChecks s) (baseCount s)
 
-sound : (s : List ℕ) {n : ℕ} → alone s ≡ Accepted n → Sound s (count s)
-unfolding checkRoutine verdict verdictOf
-sound s e = accepted s (count s) (rw (accepted-none (routineChecks s) (baseCount s) e))
+module _ (s : List ℕ) (e : first (routineChecks s) ≡ none) where
+  sound : Sound s (count s)
+  unfolding checkRoutine verdict verdictOf
+  sound = accepted s (count s) (rw e)
 
-base-length : (s : List ℕ) → length (baseRecords s) ≡ convertedLength (ops s)
-unfolding baseRecords
-base-length s = length-map (convert (ops s)) encode ∙ converted-length (ops s)
+  base-fit : All Fit (convert (ops s))
+  base-fit = stages-fit (ops s) (sound .bounded) (accepted-ops Routine s (sound .faultless) tt) .fourth
 
-base-small : (s : List ℕ) → All Fit (convert (ops s)) → All Small (baseRecords s)
-unfolding baseRecords
-base-small s f = all-fit-small (convert (ops s)) f
+  base-length : length (baseRecords s) ≡ convertedLength (ops s)
+  unfolding baseRecords
+  base-length = length-map (convert (ops s)) encode ∙ converted-length (ops s)
 
-text-length : (s : List ℕ) → count s ≤ 512 → convertedLength (ops s) ≤ 4096 → All Fit (convert (ops s)) → length (textOf s) ≤ 73744
-unfolding textOf baseRecords
-text-length s h l f = listing-length (count s) (baseRecords s) (omega arith) (omega (arith, base-length s)) (all-narrow (convert (ops s)) f)
+  base-small : All Small (baseRecords s)
+  unfolding baseRecords
+  base-small = all-fit-small (convert (ops s)) base-fit
+
+  pub text-length : length (textOf s) ≤ 73744
+  unfolding textOf baseRecords
+  text-length =
+      listing-length (count s) (baseRecords s) (omega (arith, sound .short)) (omega (arith, base-length, sound .bounded)) (all-narrow (convert (ops s)) base-fit)
 
 -- The listing that is printed from the records in the first 8n bytes of an array.
 abbrev pub from : List ℕ → List ℕ → ℕ → List ℕ
@@ -67,7 +73,7 @@ module _ {s out work base spare : List ℕ} {v : Verdict} (c : Converted s out w
   room : {n : ℕ} → alone s ≡ Accepted n → (short (baseCount s) out || short (baseCount s) work) ≡ false
   unfolding short baseCount
   room e =
-      let b = sound s e .bounded in
+      let b = sound s (accepted-none (routineChecks s) (baseCount s) e) .bounded in
       rw (le-ltb (length out) (8 * convertedLength (ops s)) (omega arith), le-ltb (length work) (8 * convertedLength (ops s)) (omega arith))
 
   -- 4,096 records have their room, so that refusals 1 to 7 decide
@@ -91,20 +97,20 @@ module _ {s out work base spare : List ℕ} {v : Verdict} (c : Converted s out w
   unfolding filled baseCount listingOf textOf
   base-of {n} e =
       let a = decided e in
-      let h = sound s a in
+      let z = accepted-none (routineChecks s) (baseCount s) a in
+      let h = sound s z in
       let k = accepted-count (routineChecks s) (baseCount s) a in
-      let f = stages-fit (ops s) (h .bounded) (accepted-ops Routine s (h .faultless) tt) .fourth in
       let l = bytes-length (baseRecords s) in
-      let m = base-length s in
+      let m = base-length s z in
       let x : base ≡ bytesOf (baseRecords s) ++ drop (8 * n) out = c .output ∙ rw (converting-is (alone s) refl, a) in
       let t : from s base n ≡ textOf s =
       ap (λ (b : List ℕ). from s b n) x
       ∙ ap (λ (b : List ℕ). listing (count s) (records b)) (take-at (bytesOf (baseRecords s)) _ (8 * n) (omega arith))
-      ∙ ap (listing (count s)) (records-back (baseRecords s) (base-small s f)) in
+      ∙ ap (listing (count s)) (records-back (baseRecords s) (base-small s z)) in
       record {
         bounded = omega (arith, h .bounded);
         within = omega (arith, ap length x, length-append (bytesOf (baseRecords s)) (drop (8 * n) out));
-        fits = rw t (text-length s (h .short) (h .bounded) f);
+        fits = rw t (text-length s z);
         is-text = t;
         then-room = λ text. accepted-then (routineChecks s) (baseCount s) _ _ a;
       }

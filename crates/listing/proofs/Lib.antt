@@ -5,3 +5,5 @@ pub mod Lines
 pub mod Lengths
 pub mod Example
 pub mod Converting
+pub mod Room
+pub mod Once

@@ -1,4 +1,5 @@
 // The listing of a routine, as text in a lent buffer: the base that it becomes, a line for each record.
+use lower::convert;
 use records::kind_at;
 use records::x_at;
 use records::y_at;
@@ -11,8 +12,8 @@ ghost use lib.ListN.{length};
 ghost use Rattle.rules.specs.Record.{rec, records};
 ghost use Rattle.rules.specs.Instruction.{actOf};
 ghost use Rattle.rules.specs.Refusals.{told, verdict};
-ghost use Rattle.listing.specs.Text.{ascii, decimal, action, instruction, line, lines, listing, refused, refusedAt};
-ghost use Rattle.listing.specs.Answers.{Printed, roomFor, Listed, Line};
+ghost use Rattle.listing.specs.Text.{ascii, decimal, action, instruction, line, lines, listing, textOf, refused, refusedAt};
+ghost use Rattle.listing.specs.Answers.{Printed, roomFor, listingOf, Listed, Line};
 
 // A word at the start of the part lent, as every writer here prints its own text: it answers how many bytes.
 fn put_word(word: &[u8], text: &mut [u8]) -> usize
@@ -213,4 +214,18 @@ fn show(n: usize, base: &[u8], text: &mut [u8]) -> Verdict
     }
     put_word(&page[..length], text);
     Verdict::Accepted(length)
+}
+
+// The listing of a routine at the start of the text, and how many bytes it has. A refusal, 1 to 7 of the routine, or 8 where the text
+// is too short, prints nothing. The base has at most 4,096 records of eight bytes.
+pub fn list(routine: &[u8], text: &mut [u8]) -> Verdict
+    ensures { λ r. ⌜ Listed (listingOf (now (routine .entry)) (now (text .entry))) (textOf (now (routine .entry))) (now (text .entry)) r (now (text .exit)) ⌝ }
+{
+    let mut base = [0u8; 32768];
+    let mut work = [0u8; 32768];
+    let converted = convert(routine, &mut base, &mut work);
+    match converted {
+        Verdict::Refused(refusal) => Verdict::Refused(refusal),
+        Verdict::Accepted(n) => show(routine.len() / 8, &base[..8 * n], text),
+    }
 }

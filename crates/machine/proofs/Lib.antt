@@ -6,3 +6,6 @@ pub mod Asking
 pub mod Moving
 pub mod Turning
 pub mod Running
+pub mod Stepping
+pub mod Checking
+pub mod Once

@@ -3,11 +3,16 @@ use mathlib.Core.Path.{_≡_, refl, sym, ap, _∙_, subst}
 use Prim.Native.Nat.{ℕ, zero, suc, _+_, _-_, _≤_, _<_}
 use native.Mathlib.Omega.{arith}
 use mathlib.Core.List.{List, [], _∷_}
-use lib.ListN.{length, drop, length-drop}
+use mathlib.Core.Bool.{Bool, true, false}
+use lib.ListN.{length, take, drop, getD, set, length-drop, length-take}
+use lib.Seq.{getD-set-same, getD-set-other, getD-take}
+use lib.Dec.{eqb}
+use borrow.Author.Tests.{eqb-true, eqb-false}
 use Rattle.rules.specs.Record.{Rec, count}
 use Rattle.rules.specs.Instruction.{Sort, conditional, loop, Op, ops}
 use Rattle.rules.specs.Numbers.{given}
 use Rattle.rules.specs.Partners.{Role, opens, parts, ends, other, role, endAt, endFrom, separatorAt, separatorFrom, endOf, separatorOf}
+use Rattle.machine.specs.Places.{placeAt, Places}
 use Rattle.rules.proofs.Partners.{end-out, separator-out}
 use Rattle.rules.proofs.Records.{ops-length}
 
@@ -55,3 +60,16 @@ pub given-some : (k x : ℕ) → ¬ (k ≡ 0) → given k x ≡ x
 unfolding given
 given-some zero x h = absurd (h refl)
 given-some (suc k) x h = refl
+
+-- ## Places worked out one after another
+
+pub one-more : (s found : List ℕ) (k v : ℕ) → k < length found → v ≡ placeAt s (suc k) → ((j : ℕ) → j < k → getD found j 0 ≡ placeAt s (suc j))
+    → (j : ℕ) → j < suc k → getD (set found k v) j 0 ≡ placeAt s (suc j)
+one-more s found k v l e h j q = by (eqb j k) refl
+  where
+    by : (b : Bool) → eqb j k ≡ b → getD (set found k v) j 0 ≡ placeAt s (suc j)
+    by true p = let z = eqb-true j k p in rw z (getD-set-same found k v 0 l ∙ e)
+    by false p = let z = eqb-false j k p in getD-set-other found k j v 0 z ∙ h j (omega arith)
+
+pub the-first : (s found : List ℕ) (n : ℕ) → ((j : ℕ) → j < n → getD found j 0 ≡ placeAt s (suc j)) → Places s (take n found)
+the-first s found n h j l = let q : j < n = omega (arith, length-take n found) in rw (getD-take n found j 0 q) (h j q)

@@ -33,6 +33,15 @@ unfolding moveTo names
 move-in n zero h = refl
 move-in n (suc k) h = rw (le-leb (suc k) n h)
 
+pub move-least : (n k : ℕ) → moveTo n k ≤ n
+unfolding moveTo names
+move-least n zero = omega arith
+move-least n (suc k) = by (leb (suc k) n) refl
+  where
+    by : (b : Bool) → leb (suc k) n ≡ b → cond b (suc k) 0 ≤ n
+    by true e = leb-true (suc k) n e
+    by false e = omega arith
+
 pub names-zero : (n k : ℕ) → k ≡ 0 → names n k ≡ false
 unfolding names
 names-zero n k e = rw e
@@ -52,6 +61,7 @@ pub record Going (s replies : List ℕ) (budget : ℕ) (whole : Run) (log₀ log
   pub entries : length es ≡ 96
   pub depth : d ≤ 96
   pub within : steps ≤ budget
+  pub asked : (used ≤ steps) × (logged ≤ steps)
   pub room : 2 * logged ≤ length log
   pub same : length log ≡ length log₀
   pub rest : whole ≡ plus steps (run (ops s) (budget - steps) (moveTo (count s) i) (mem (stack es d) replies used log logged))
@@ -88,17 +98,26 @@ module _ {s replies : List ℕ} {budget : ℕ} {whole : Run} {log₀ log : List 
       left : budget - steps ≡ suc (budget - suc steps)
       left = omega (arith, g .within, q)
 
+      -- A single step, and nothing of it done yet.
+      pub last : budget ≡ 1 → whole ≡ run (ops s) 1 i (mem (stack es d) replies 0 log 0)
+      last p =
+          let z : steps ≡ 0 = omega (arith, g .within, q) in
+          let u : used ≡ 0 = omega (arith, g .asked) in
+          let l : logged ≡ 0 = omega (arith, g .asked) in
+          g .rest ∙ rw (z, u, l, p, stands) (plus-zero _)
+
       pub halts : (w : Status) → step (ops s) i here ≡ halt w → whole ≡ plus steps (stopped i here w)
       halts w h = g .rest ∙ rw (stands, left) (plus-halt (ops s) i here (budget - suc steps) steps w h)
 
       -- A step that is taken.
       pub goes : (k : ℕ) (log′ es′ : List ℕ) (d′ used′ logged′ : ℕ) → step (ops s) i here ≡ go (moveTo (count s) k) (mem (stack es′ d′) replies used′ log′ logged′)
-          → length es′ ≡ 96 → d′ ≤ 96 → 2 * logged′ ≤ length log′ → length log′ ≡ length log₀
+          → length es′ ≡ 96 → d′ ≤ 96 → (used′ ≤ steps + 1) × (logged′ ≤ steps + 1) → 2 * logged′ ≤ length log′ → length log′ ≡ length log₀
           → Going s replies budget whole log₀ log′ k es′ d′ used′ logged′ (steps + 1)
-      goes k log′ es′ d′ used′ logged′ h a b c f = record {
+      goes k log′ es′ d′ used′ logged′ h a b o c f = record {
         entries = a;
         depth = b;
         within = omega (arith, g .within, q);
+        asked = o;
         room = c;
         same = f;
         rest = g .rest ∙ rw (stands, add-one steps, left) (plus-go (ops s) i here (budget - suc steps) steps (moveTo (count s) k) (mem (stack es′ d′) replies used′ log′ logged′) h);
@@ -107,13 +126,13 @@ module _ {s replies : List ℕ} {budget : ℕ} {whole : Run} {log₀ log : List 
       module _ (k : ℕ) (log′ : List ℕ) where
         pub goes-to : log′ ≡ log → ((m : Mem) → step (ops s) i m ≡ go (moveTo (count s) k) m)
             → Going s replies budget whole log₀ log′ k es d used logged (steps + 1)
-        goes-to e h = rw e (goes k log es d used logged (h here) (g .entries) (g .depth) (g .room) (g .same))
+        goes-to e h = rw e (goes k log es d used logged (h here) (g .entries) (g .depth) (omega arith) (g .room) (g .same))
 
         pub goes-asked : Asks s i replies used log logged k log′ → length log′ ≡ length log
             → Going s replies budget whole log₀ log′ k es d (used + 1) (logged + 1) (steps + 1)
-        goes-asked h e = goes k log′ es d (used + 1) (logged + 1) (h .goes (stack es d)) (g .entries) (g .depth) (rw e (h .room)) (e ∙ g .same)
+        goes-asked h e = goes k log′ es d (used + 1) (logged + 1) (h .goes (stack es d)) (g .entries) (g .depth) (omega arith) (rw e (h .room)) (e ∙ g .same)
 
         pub goes-turned : (o : Own) → log′ ≡ log → ((m : Mem) → step (ops s) i m ≡ owns (count s) o m) → (d′ : ℕ) (es′ : List ℕ)
             → Goes (count s) o es d k d′ es′ → Going s replies budget whole log₀ log′ k es′ d′ used logged (steps + 1)
         goes-turned o e h d′ es′ q =
-            rw e (goes k log es′ d′ used logged (h here ∙ q .goes replies used log logged) (q .entries ∙ g .entries) (q .depth) (g .room) (g .same))
+            rw e (goes k log es′ d′ used logged (h here ∙ q .goes replies used log logged) (q .entries ∙ g .entries) (q .depth) (omega arith) (g .room) (g .same))

@@ -20,16 +20,6 @@ use Rattle.machine.specs.Deeds.{owns}
 use Rattle.machine.specs.Turning.{Turns}
 use Rattle.machine.proofs.Stacks.{top-zero, top-at, popped-none, popped-some}
 
-pub names-in : (n k : ℕ) → ¬ (k ≡ 0) → k ≤ n → names n k ≡ true
-unfolding names
-names-in n zero z h = absurd (z refl)
-names-in n (suc k) z h = le-leb (suc k) n h
-
-pub names-out : (n k : ℕ) → n < k → names n k ≡ false
-unfolding names
-names-out n zero h = refl
-names-out n (suc k) h = lt-leb (suc k) n h
-
 module _ (n : ℕ) (m : Mem) where
   pub push-goes : (y k : ℕ) → m .stack .depth < 96 → owns n (Push y k) m ≡ go (moveTo n k) (withStack (pushed y (m .stack)) m)
   unfolding owns perform branch agree full
@@ -63,17 +53,13 @@ module _ (n : ℕ) (m : Mem) where
   unfolding owns leaving moveTo names
   return-none e = rw e
 
-  pub return-zero : (t : ℕ) → top (m .stack) ≡ some t → t ≡ 0 → owns n Return m ≡ go (moveTo n 0) m
+  pub return-out : (t : ℕ) → top (m .stack) ≡ some t → names n t ≡ false → owns n Return m ≡ go (moveTo n 0) m
   unfolding owns leaving moveTo names
-  return-zero t e z = rw (e, z)
+  return-out t e h = rw e (ap (λ (b : Bool). cond b (go t (withStack (popped (m .stack)) m)) (go 0 m)) h)
 
-  pub return-out : (t : ℕ) → top (m .stack) ≡ some t → n < t → owns n Return m ≡ go (moveTo n 0) m
-  unfolding owns leaving moveTo names
-  return-out t e h = rw e (ap (λ (b : Bool). cond b (go t (withStack (popped (m .stack)) m)) (go 0 m)) (names-out n t h))
-
-  pub return-in : (t : ℕ) → top (m .stack) ≡ some t → ¬ (t ≡ 0) → t ≤ n → owns n Return m ≡ go (moveTo n t) (withStack (popped (m .stack)) m)
+  pub return-in : (t : ℕ) → top (m .stack) ≡ some t → names n t ≡ true → owns n Return m ≡ go (moveTo n t) (withStack (popped (m .stack)) m)
   unfolding owns leaving moveTo
-  return-in t e z h = rw (e, names-in n t z h)
+  return-in t e h = rw (e, h)
 
 -- The same on the entries and the depth, in place.
 module _ (n d : ℕ) (es : List ℕ) where
@@ -127,12 +113,13 @@ module _ (n d : ℕ) (es : List ℕ) where
       the-top : top (stack es d) ≡ some t
       the-top = some-top ∙ ap some (sym e)
 
-      pub turns-return-zero : t ≡ 0 → Turns n Return es d (To 0 d) es
-      turns-return-zero q = record { entries = refl; depth = h; goes = λ r u l g. return-zero n (mem (stack es d) r u l g) t the-top q }
-
-      pub turns-return-out : n < t → Turns n Return es d (To 0 d) es
+      pub turns-return-out : names n t ≡ false → Turns n Return es d (To 0 d) es
       turns-return-out q = record { entries = refl; depth = h; goes = λ r u l g. return-out n (mem (stack es d) r u l g) t the-top q }
 
-      pub turns-return : ¬ (t ≡ 0) → t ≤ n → Turns n Return es d (To t (d - 1)) (set es (d - 1) 0)
+      pub turns-return : names n t ≡ true → Turns n Return es d (To t (d - 1)) (set es (d - 1) 0)
       unfolding withStack
-      turns-return p q = record { entries = length-set es (d - 1) 0; depth = below; goes = λ r u l g. return-in n (mem (stack es d) r u l g) t the-top p q ∙ rw without-top }
+      turns-return q = record {
+        entries = length-set es (d - 1) 0;
+        depth = below;
+        goes = λ r u l g. return-in n (mem (stack es d) r u l g) t the-top q ∙ rw without-top;
+      }

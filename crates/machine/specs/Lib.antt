@@ -6,3 +6,5 @@ pub mod Asking
 pub mod Moving
 pub mod Turning
 pub mod Stopping
+pub mod Checking
+pub mod Stepping

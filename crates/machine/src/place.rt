@@ -4,9 +4,20 @@ use records::x_at;
 use records::y_at;
 ghost use mathlib.Core.Path.{_≡_};
 ghost use Prim.Native.Nat.{_+_, _≤_};
+ghost use lib.ListN.{take};
 ghost use Rattle.rules.specs.Record.{count};
-ghost use Rattle.rules.specs.Numbers.{given};
-ghost use Rattle.machine.specs.Places.{placeAt};
+ghost use Rattle.rules.specs.Numbers.{given, names};
+ghost use Rattle.machine.specs.Places.{placeAt, Places};
+
+// Whether k is in 1..n.
+pub fn names(n: usize, k: usize) -> bool
+    ensures { λ r. ⌜ r ≡ names n k ⌝ }
+{
+    if k == 0 {
+        return false;
+    }
+    k <= n
+}
 
 // The number after i, where k names a record.
 fn next_if(k: usize, i: usize) -> usize
@@ -42,4 +53,18 @@ pub fn place(s: &[u8], i: usize) -> usize
         14 => shape::loop_header(s, i),
         _ => 0,
     }
+}
+
+// The places of the records of a routine, worked out once before its run.
+pub fn places(s: &[u8], n: usize) -> [usize; 512]
+    requires { ⌜ (n ≡ count (now s)) × (n ≤ 512) ⌝ }
+    ensures { λ r. ⌜ Places (now (s .entry)) (take n r) ⌝ }
+{
+    let mut found = [0usize; 512];
+    let mut k: usize = 0;
+    while k < n {
+        found[k] = place(s, k + 1);
+        k += 1;
+    }
+    found
 }

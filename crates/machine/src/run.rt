@@ -4,6 +4,8 @@ use crate::deed::Own;
 use crate::deed::deed_at;
 use crate::outside::Said;
 use crate::outside::outside;
+use crate::place::names;
+use crate::step::own_step;
 use crate::turn::Turned;
 use crate::turn::turn;
 use rules::Outcome;
@@ -15,7 +17,6 @@ ghost use mathlib.Core.Path.{_≡_};
 ghost use Prim.Native.Nat.{_*_, _≤_};
 ghost use lib.ListN.{length};
 ghost use Rattle.rules.specs.Record.{count};
-ghost use Rattle.rules.specs.Numbers.{names};
 ghost use Rattle.rules.specs.Instruction.{ops};
 ghost use Rattle.rules.specs.Run.{run};
 ghost use Rattle.rules.specs.Answers.{Called, ran, memAt};
@@ -32,7 +33,7 @@ pub enum Moved {
     OnStack(Own),
 }
 
-fn move_on(
+pub fn move_on(
     s: &[u8],
     places: &[usize],
     replies: &[u8],
@@ -61,16 +62,6 @@ fn move_on(
     }
 }
 
-// Whether k is in 1..n.
-fn names(n: usize, k: usize) -> bool
-    ensures { λ r. ⌜ r ≡ names n k ⌝ }
-{
-    if k == 0 {
-        return false;
-    }
-    k <= n
-}
-
 // What a run that stops here answers.
 pub fn stop(status: Status, at: usize, stack: Stack, steps: u64, used: usize, logged: usize) -> Ran
     ensures { λ r. ⌜ r ≡ stops status at stack steps used logged ⌝ }
@@ -84,7 +75,8 @@ pub fn stop(status: Status, at: usize, stack: Stack, steps: u64, used: usize, lo
     }
 }
 
-// Statuses are tried in the order 1, 5, 2, 3, 4. A move to any number outside 1..n sets position 0, which means ended.
+// Statuses are tried in the order 1, 5, 2, 3, 4. A move to any number outside 1..n sets position 0, which means ended. A single step
+// hands the counter stack on by value; a longer run works on it in place.
 pub fn drive(
     s: &[u8],
     places: &[usize],
@@ -142,6 +134,9 @@ pub fn drive(
                 return stop(w, at, Stack { entries, depth }, steps, used, logged);
             }
             Moved::OnStack(own) => {
+                if budget == 1 {
+                    return own_step(n, own, at, Stack { entries, depth });
+                }
                 let turned = turn(n, own, &mut entries, depth);
                 match turned {
                     Turned::To(k, d) => {

@@ -1,5 +1,6 @@
 // The counter stack's own deeds in place, as a run does them with the entries and the depth in locals.
 use crate::deed::Own;
+use crate::place::names;
 ghost use mathlib.Core.Path.{_≡_};
 ghost use Prim.Native.Nat.{_≤_};
 ghost use lib.ListN.{length};
@@ -51,7 +52,7 @@ fn compare(n: usize, entries: &mut [u16; 96], depth: usize, y: u16, yes: usize, 
     Turned::To(no, depth)
 }
 
-fn wide(v: u16) -> usize
+pub fn wide(v: u16) -> usize
     ensures { λ r. ⌜ r ≡ v ⌝ }
 {
     v as usize
@@ -67,10 +68,7 @@ fn go_back(n: usize, entries: &mut [u16; 96], depth: usize) -> Turned
     }
     let top = depth - 1;
     let t = wide(entries[top]);
-    if t == 0 {
-        return Turned::To(0, depth);
-    }
-    if n < t {
+    if !names(n, t) {
         return Turned::To(0, depth);
     }
     entries[top] = 0;

@@ -154,5 +154,6 @@ pub fn loop_header(s: &[u8], i: usize) -> usize
 pub fn item_separator(s: &[u8], i: usize) -> usize
     ensures { λ r. ⌜ r ≡ itsSeparator (ops (now (s .entry))) i ⌝ }
 {
-    separator_of(s, conditional_header(s, i))
+    let header = conditional_header(s, i);
+    separator_of(s, header)
 }

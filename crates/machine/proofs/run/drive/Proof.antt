@@ -9,7 +9,8 @@ use Rattle.rules.specs.Stack.{stack}
 use Rattle.rules.specs.Run.{run}
 use Rattle.rules.specs.Answers.{memAt}
 use Rattle.machine.specs.Asking.{mem}
-use Rattle.machine.proofs.Running.{Going, named, begins, answered, ends, spends, halts, goes-to, goes-asked, goes-turned}
+use Rattle.machine.proofs.Running.{Going, named, begins, answered, ends, spends, last, halts, goes-to, goes-asked, goes-turned}
+use Rattle.machine.proofs.Stepping.{steps-own}
 use Rattle.machine.proofs.run.drive.Statement.{statement}
 use Rattle.machine.proofs.run.drive.Tie as tie
 
@@ -27,6 +28,7 @@ holds c =
       entries = search needs;
       depth = p .2;
       within = omega arith;
+      asked = omega arith;
       room = omega arith;
       same = refl;
       rest = begins _ _ _ _ (p .0);
@@ -80,20 +82,27 @@ returns-3 c =
     let h = rw (c .before .before .moved3 .given .1) at (c .before .before .before .before .before .before .move-on .ensures) in
     answered _ (l .steps) _ _ _ (halts (l .inv) (sym (c .before .before .before .before .before .before .before .before .before .before .names .ensures) ∙ not-false _ (c .before .before .before .before .before .before .before .before .before .if1 .left)) (c .before .before .before .before .before .before .before .before .if2 .left) _ (h .1 _)) _ (c .stop3 .ensures) _ (h .0)
 
-again-3 : tie.Need-loop-again-3 Inv-loop μ-loop
-again-3 c =
-    let l = c .before .before .before .before .before .before .before .before .before .before .before .before .before .before .before .loop in
-    let h = rw (c .before .before .before .before .before .before .moved4 .given .1) at (c .before .before .before .before .before .before .before .before .before .before .move-on .ensures) in
-    let q = rw (c .before .turned .given .1) at (c .before .before .before .turn .ensures) in
-    goes-turned (l .inv) (sym (c .before .before .before .before .before .before .before .before .before .before .before .before .before .before .names .ensures) ∙ not-false _ (c .before .before .before .before .before .before .before .before .before .before .before .before .before .if1 .left)) (c .before .before .before .before .before .before .before .before .before .before .before .before .if2 .left) _ _ _ (h .0) (h .1) _ _ q
-
 returns-4 : tie.Need-returns-4 Inv-loop μ-loop
 unfolding memAt
 returns-4 c =
-    let l = c .before .before .before .before .before .before .before .before .before .before .before .before .before .before .before .loop in
-    let h = rw (c .before .before .before .before .before .before .moved4 .given .1) at (c .before .before .before .before .before .before .before .before .before .before .move-on .ensures) in
+    let l = c .before .before .before .before .before .before .before .before .before .before .before .before .loop in
+    let h = rw (c .before .before .before .moved4 .given .1) at (c .before .before .before .before .before .before .before .move-on .ensures) in
+    rw (last (l .inv) (sym (c .before .before .before .before .before .before .before .before .before .before .before .names .ensures) ∙ not-false _ (c .before .before .before .before .before .before .before .before .before .before .if1 .left)) (c .before .before .before .before .before .before .before .before .before .if2 .left) (c .before .if3 .taken)) (steps-own _ _ _ _ _ _ _ _ (h .0) (h .1) (c .own-step .ensures))
+
+again-3 : tie.Need-loop-again-3 Inv-loop μ-loop
+again-3 c =
+    let l = c .before .before .before .before .before .before .before .before .before .before .before .before .before .before .before .before .loop in
+    let h = rw (c .before .before .before .before .before .before .before .moved4 .given .1) at (c .before .before .before .before .before .before .before .before .before .before .before .move-on .ensures) in
+    let q = rw (c .before .turned .given .1) at (c .before .before .before .turn .ensures) in
+    goes-turned (l .inv) (sym (c .before .before .before .before .before .before .before .before .before .before .before .before .before .before .before .names .ensures) ∙ not-false _ (c .before .before .before .before .before .before .before .before .before .before .before .before .before .before .if1 .left)) (c .before .before .before .before .before .before .before .before .before .before .before .before .before .if2 .left) _ _ _ (h .0) (h .1) _ _ q
+
+returns-5 : tie.Need-returns-5 Inv-loop μ-loop
+unfolding memAt
+returns-5 c =
+    let l = c .before .before .before .before .before .before .before .before .before .before .before .before .before .before .before .before .loop in
+    let h = rw (c .before .before .before .before .before .before .before .moved4 .given .1) at (c .before .before .before .before .before .before .before .before .before .before .before .move-on .ensures) in
     let q = rw (c .before .enum-told .given .1) at (c .before .before .before .turn .ensures) in
-    answered _ (l .steps) _ _ _ (halts (l .inv) (sym (c .before .before .before .before .before .before .before .before .before .before .before .before .before .before .names .ensures) ∙ not-false _ (c .before .before .before .before .before .before .before .before .before .before .before .before .before .if1 .left)) (c .before .before .before .before .before .before .before .before .before .before .before .before .if2 .left) _ (h .1 _ ∙ q .1 _ _ _ _)) _ (c .stop4 .ensures ∙ rw (q .0)) _ (h .0)
+    answered _ (l .steps) _ _ _ (halts (l .inv) (sym (c .before .before .before .before .before .before .before .before .before .before .before .before .before .before .before .names .ensures) ∙ not-false _ (c .before .before .before .before .before .before .before .before .before .before .before .before .before .before .if1 .left)) (c .before .before .before .before .before .before .before .before .before .before .before .before .before .if2 .left) _ (h .1 _ ∙ q .1 _ _ _ _)) _ (c .stop4 .ensures ∙ rw (q .0)) _ (h .0)
 
 pub drive-spec : {M : Type 1} → statement M
 drive-spec =
@@ -127,10 +136,13 @@ drive-spec =
     (λ c. search needs)
     (λ c κs. search needs)
     (λ c. search needs)
+    returns-4
+    (λ c κs. search needs)
+    (λ c. search needs)
     (λ c. omega arith)
     (λ c. omega arith)
     again-3
     (λ c. search needs)
     (λ c κs. search needs)
     (λ c. search needs)
-    returns-4)
+    returns-5)

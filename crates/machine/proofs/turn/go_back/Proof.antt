@@ -1,5 +1,7 @@
+use mathlib.Core.Path.{_≡_, refl, sym, ap, _∙_}
 use borrow.Author.Needs.{needs}
-use Rattle.machine.proofs.Turning.{turns-return-none, turns-return-zero, turns-return-out, turns-return}
+use borrow.Author.Tests.{not-true, not-false}
+use Rattle.machine.proofs.Turning.{turns-return-none, turns-return-out, turns-return}
 use Rattle.machine.proofs.turn.go_back.Statement.{statement}
 use Rattle.machine.proofs.turn.go_back.Tie as tie
 
@@ -12,8 +14,8 @@ go-back-spec =
     (λ c. search needs)
     (λ c. search needs)
     (λ c κs. search needs)
-    (λ c. turns-return-zero _ _ _ (c .before .before .before .before .pre .0) (c .before .before .before .if1 .left) (c .before .before .before .before .pre .1) _ (c .before .wide .ensures) (c .if2 .taken))
-    (λ c. turns-return-out _ _ _ (c .before .before .before .before .before .pre .0) (c .before .before .before .before .if1 .left) (c .before .before .before .before .before .pre .1) _ (c .before .before .wide .ensures) (c .if3 .taken))
+    (λ c κs. search needs)
+    (λ c. turns-return-out _ _ _ (c .before .before .before .before .before .pre .0) (c .before .before .before .before .if1 .left) (c .before .before .before .before .before .pre .1) _ (c .before .before .wide .ensures) (sym (c .before .names .ensures) ∙ not-true _ (c .if2 .taken)))
     (λ c. search needs)
     (λ c. search needs)
-    (λ c. turns-return _ _ _ (c .before .before .before .before .before .pre .0) (c .before .before .before .before .if1 .left) (c .before .before .before .before .before .pre .1) _ (c .before .before .wide .ensures) (c .before .if2 .left) (c .if3 .left)))
+    (λ c. turns-return _ _ _ (c .before .before .before .before .before .pre .0) (c .before .before .before .before .if1 .left) (c .before .before .before .before .before .pre .1) _ (c .before .before .wide .ensures) (sym (c .before .names .ensures) ∙ not-false _ (c .if2 .left))))

@@ -1,7 +1,7 @@
 use mathlib.Core.Path.{_≡_, sym, _∙_}
 use Rattle.machine.proofs.Running.{names-zero, names-leb}
-use Rattle.machine.proofs.run.names.Statement.{statement}
-use Rattle.machine.proofs.run.names.Tie as tie
+use Rattle.machine.proofs.place.names.Statement.{statement}
+use Rattle.machine.proofs.place.names.Tie as tie
 
 pub names-spec : {M : Type 1} → statement M
 names-spec = tie.close (tie.spec (λ c. sym (names-zero _ _ (c .if1 .taken))) (λ c. sym (names-leb _ _ (c .if1 .left))))

@@ -1,0 +1,13 @@
+use mathlib.Core.Path.{ap, _∙_}
+use borrow.Author.Needs.{needs}
+use Rattle.abi.specs.Told.{ranTold}
+use Rattle.abi.proofs.qh_run_base.Statement.{statement}
+use Rattle.abi.proofs.qh_run_base.Tie as tie
+
+returns : tie.Need-returns
+returns c =
+    let e = c .before .before .before .run-base .ensures in
+    record { answers = c .tell-ran .ensures ∙ ap ranTold (e .answers); logs = e .logs }
+
+pub qh-run-base-spec : {M : Type 1} → statement M
+qh-run-base-spec = tie.close (tie.spec (λ c κs. search needs) (λ c κs. search needs) (λ c. search needs) returns)

@@ -1,0 +1,189 @@
+-- The checks of a call one after another: what is refused, and what is then known of an accepted file.
+use mathlib.Core.Path.{_≡_, refl, sym, ap, _∙_}
+use Prim.Native.Nat.{ℕ, zero, suc, _≤_, _<_}
+use native.Mathlib.Omega.{arith}
+use mathlib.Core.Bool.{Bool, true, false, not, _&&_}
+use mathlib.Core.Option.{Option, none, some}
+use mathlib.Core.List.{List, [], _∷_, _++_, append-assoc}
+use lib.ListN.{length}
+use lib.Dec.{leb, ltb}
+use borrow.Author.Tests.{ltb-false, leb-true}
+use Rattle.rules.specs.declared.Refusal.{Refusal}
+use Rattle.rules.specs.declared.Refusal.the-variants.{Long, Reply}
+use Rattle.rules.specs.declared.Refusal.the-variants as refusal
+use Rattle.rules.specs.declared.Verdict.{Verdict}
+use Rattle.rules.specs.declared.Verdict.the-variants.{Accepted, Refused}
+use Rattle.rules.specs.declared.Notation.{Notation}
+use Rattle.rules.specs.declared.Notation.the-variants.{Routine}
+use Rattle.rules.specs.declared.Ran.{Ran}
+use Rattle.rules.specs.declared.State.{State}
+use Rattle.rules.specs.Record.{count}
+use Rattle.rules.specs.Numbers.{moveTo}
+use Rattle.rules.specs.Instruction.{ops}
+use Rattle.rules.specs.Refusals.{when, whenAt, orElse, first, verdictOf, verdict}
+use Rattle.rules.specs.Checks.{most, long, ragged, faultFrom, recordChecks}
+use Rattle.rules.specs.Run.{startOf, freshMem, run, runs}
+use Rattle.rules.specs.Answers.{Called, routineChecks, badReply, sound, unless, turnedAway, noState, running, ran, stepping, memAt, entriesSound}
+use Rattle.rules.proofs.Records.{ops-length}
+use Rattle.machine.specs.States.{startState}
+use Rattle.machine.specs.Checking.{withReplies, withState}
+use Rattle.machine.proofs.Running.{move-least}
+
+first-append : (cs ds : List (Option Refusal)) → first (cs ++ ds) ≡ orElse (first cs) (first ds)
+unfolding first orElse
+first-append [] ds = refl
+first-append (none ∷ cs) ds = first-append cs ds
+first-append (some r ∷ cs) ds = refl
+
+first-one : (c : Option Refusal) → first (c ∷ []) ≡ c
+unfolding first orElse
+first-one none = refl
+first-one (some r) = refl
+
+pub when-at : (k j : ℕ) → k ≡ j → ¬ (k ≡ 0) → whenAt Reply j ≡ some (Reply k)
+unfolding whenAt
+when-at k zero e h = absurd (h e)
+when-at k (suc j) e h = rw e
+
+pub when-none : (k j : ℕ) → k ≡ j → k ≡ 0 → whenAt Reply j ≡ none
+unfolding whenAt
+when-none k j e h = rw (← e, h)
+
+-- One check more.
+module _ (cs : List (Option Refusal)) (n : ℕ) where
+  more : (c : Option Refusal) → first (cs ++ (c ∷ [])) ≡ orElse (first cs) c
+  more c = first-append cs (c ∷ []) ∙ ap (orElse (first cs)) (first-one c)
+
+  pub with-replies : (replies : List ℕ) → withReplies (verdict cs n) replies ≡ verdict (cs ++ (whenAt Reply (badReply replies) ∷ [])) n
+  unfolding verdict verdictOf orElse withReplies
+  with-replies replies = rw (more (whenAt Reply (badReply replies))) (by (first cs))
+    where
+      by : (o : Option Refusal) → withReplies (verdictOf o n) replies ≡ verdictOf (orElse o (whenAt Reply (badReply replies))) n
+      by none = refl
+      by (some r) = refl
+
+  pub with-state : (m : State) → withState (verdict cs n) m ≡ verdict (cs ++ (when (not (sound n m)) refusal.State ∷ [])) n
+  unfolding verdict verdictOf orElse withState
+  with-state m = rw (more (when (not (sound n m)) refusal.State)) (by (first cs))
+    where
+      by : (o : Option Refusal) → withState (verdictOf o n) m ≡ verdictOf (orElse o (when (not (sound n m)) refusal.State)) n
+      by none = refl
+      by (some r) = refl
+
+accepted : (o : Option Refusal) (n k : ℕ) → verdictOf o n ≡ Accepted k → (o ≡ none) × (k ≡ n)
+unfolding verdictOf
+accepted none n k e = (refl, cc)
+accepted (some r) n k e = absurd (let z : _≡_ {A = ℕ} 0 1 = cc in omega arith)
+
+refused : (o : Option Refusal) (n : ℕ) (r : Refusal) → verdictOf o n ≡ Refused r → o ≡ some r
+unfolding verdictOf
+refused none n r e = absurd (let z : _≡_ {A = ℕ} 0 1 = cc in omega arith)
+refused (some q) n r e = cc
+
+-- A run starts fresh, at position 1, or 0 if there is no record.
+pub starts : (s replies log : List ℕ) (budget n : ℕ) (from : State) → n ≡ count s → from ≡ startState n
+    → run (ops s) budget (from .at) (memAt from replies log) ≡ runs (ops s) replies log budget
+unfolding runs startOf freshMem memAt startState
+starts s replies log budget n from e h = rw (h, e, ops-length s)
+
+pub start-in : (s : List ℕ) (n : ℕ) (from : State) → n ≡ count s → from ≡ startState n → (from .at ≤ count s) × (from .stack .depth ≤ 96)
+unfolding startState
+start-in s n from e h = rw (h, e) (move-least (count s) 1, omega arith)
+
+-- ## What a call answers
+
+module _ (checks : List (Option Refusal)) (s replies : List ℕ) where
+  abbrev runChecks : List (Option Refusal)
+  runChecks = checks ++ (whenAt Reply (badReply replies) ∷ [])
+
+  abbrev stepChecks : State → List (Option Refusal)
+  stepChecks m = checks ++ (whenAt Reply (badReply replies) ∷ when (not (sound (count s) m)) refusal.State ∷ [])
+
+  module _ (v w : Verdict) (p : v ≡ verdict checks (count s)) (q : w ≡ withReplies v replies) where
+    run-verdict : w ≡ verdictOf (first runChecks) (count s)
+    unfolding verdict
+    run-verdict = q ∙ rw p (with-replies checks (count s) replies)
+
+    pub run-accepted : (k : ℕ) → w ≡ Accepted k → (first runChecks ≡ none) × (k ≡ count s)
+    run-accepted k e = accepted (first runChecks) (count s) k (sym run-verdict ∙ e)
+
+    module _ (log : List ℕ) (budget : ℕ) where
+      pub run-refused : (r : Refusal) → w ≡ Refused r → (from : State) → from ≡ noState
+          → (a : Ran) → ((l : List ℕ) → a ≡ turnedAway r from l .answer) → Called (running checks s replies log budget) a log
+      unfolding running unless turnedAway
+      run-refused r e from f a h =
+          rw (refused (first runChecks) (count s) r (sym run-verdict ∙ e)) (record { answers = h log ∙ rw f; logs = refl })
+
+      pub run-called : (k : ℕ) → w ≡ Accepted k → (from : State) → from ≡ startState k → (a : Ran) (log′ : List ℕ)
+          → Called (ran (run (ops s) budget (from .at) (memAt from replies log))) a log′ → Called (running checks s replies log budget) a log′
+      unfolding running unless
+      run-called k e from f a log′ h =
+          let x = run-accepted k e in
+          rw (x .0, ← starts s replies log budget k from (x .1) f) h
+
+  module _ (m : State) (v w z : Verdict) (p : v ≡ verdict checks (count s)) (q : w ≡ withReplies v replies) (o : z ≡ withState w m) where
+    step-verdict : z ≡ verdictOf (first (stepChecks m)) (count s)
+    unfolding verdict
+    step-verdict =
+        o
+        ∙ ap (λ (x : Verdict). withState x m) (q ∙ rw p (with-replies checks (count s) replies))
+        ∙ with-state runChecks (count s) m
+        ∙ ap (λ (cs : List (Option Refusal)). verdictOf (first cs) (count s)) (append-assoc checks _ _)
+
+    pub step-accepted : (k : ℕ) → z ≡ Accepted k → first (stepChecks m) ≡ none
+    step-accepted k e = accepted (first (stepChecks m)) (count s) k (sym step-verdict ∙ e) .0
+
+    module _ (log : List ℕ) where
+      pub step-refused : (r : Refusal) → z ≡ Refused r → (a : Ran) → ((l : List ℕ) → a ≡ turnedAway r m l .answer)
+          → Called (stepping checks s replies log m) a log
+      unfolding stepping unless turnedAway
+      step-refused r e a h = rw (refused (first (stepChecks m)) (count s) r (sym step-verdict ∙ e)) (record { answers = h log; logs = refl })
+
+      pub step-called : (k : ℕ) → z ≡ Accepted k → (a : Ran) (log′ : List ℕ) → Called (ran (run (ops s) 1 (m .at) (memAt m replies log))) a log′
+          → Called (stepping checks s replies log m) a log′
+      unfolding stepping unless
+      step-called k e a log′ h = rw (step-accepted k e) h
+
+-- ## What is known of an accepted call
+
+clear-left : (c d : Option Refusal) → orElse c d ≡ none → c ≡ none
+unfolding orElse
+clear-left none d e = refl
+clear-left (some r) d e = absurd (let z : _≡_ {A = ℕ} 0 1 = cc in omega arith)
+
+clear-right : (c d : Option Refusal) → orElse c d ≡ none → d ≡ none
+unfolding orElse
+clear-right none d e = e
+clear-right (some r) d e = absurd (let z : _≡_ {A = ℕ} 0 1 = cc in omega arith)
+
+not-when : (b : Bool) (r : Refusal) → when b r ≡ none → b ≡ false
+unfolding when
+not-when true r e = absurd (let z : _≡_ {A = ℕ} 0 1 = cc in omega arith)
+not-when false r e = refl
+
+-- The file has no more records than allowed.
+pub short : (nt : Notation) (s : List ℕ) (more : List (Option Refusal)) → first (recordChecks nt s ++ more) ≡ none → count s ≤ most nt
+unfolding recordChecks first long
+short nt s more e = ltb-false (most nt) (count s) (not-when (ltb (most nt) (count s)) Long (clear-left _ _ (clear-right _ _ e)))
+
+pub short-routine : (s : List ℕ) (more : List (Option Refusal)) → first (routineChecks s ++ more) ≡ none → count s ≤ 512
+unfolding routineChecks most
+short-routine s more e = short Routine s _ (sym (ap first (append-assoc (recordChecks Routine s) _ more)) ∙ e)
+
+and-two : (a b c : Bool) → (a && b) && c ≡ true → (a ≡ true) × (b ≡ true)
+and-two true true c e = (refl, refl)
+and-two true false c e = absurd (let z : _≡_ {A = ℕ} 0 1 = cc in omega arith)
+and-two false b c e = absurd (let z : _≡_ {A = ℕ} 0 1 = cc in omega arith)
+
+not-not : (b : Bool) → not b ≡ false → b ≡ true
+not-not true e = refl
+not-not false e = absurd (let z : _≡_ {A = ℕ} 0 1 = cc in omega arith)
+
+-- The position is in 0..n, and the depth at most 96.
+pub sound-in : (checks : List (Option Refusal)) (s replies : List ℕ) (m : State) → first (stepChecks checks s replies m) ≡ none
+    → (m .at ≤ count s) × (m .stack .depth ≤ 96)
+unfolding sound first
+sound-in checks s replies m e =
+    let last = clear-right _ _ (clear-right _ _ (sym (first-append checks _) ∙ e)) in
+    let h = and-two (leb (m .at) (count s)) (leb (m .stack .depth) 96) (entriesSound (m .stack .depth) (m .stack .entries)) (not-not (sound (count s) m) (not-when _ refusal.State (sym (first-one _) ∙ last))) in
+    (leb-true (m .at) (count s) (h .0), leb-true (m .stack .depth) 96 (h .1))

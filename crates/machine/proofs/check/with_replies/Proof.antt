@@ -1,0 +1,31 @@
+use mathlib.Core.Path.{_≡_, refl, sym, ap, _∙_}
+use borrow.Author.Needs.{needs}
+use Rattle.rules.specs.Refusals.{whenAt, verdictOf}
+use Rattle.rules.specs.Answers.{badReply}
+use Rattle.machine.specs.Checking.{withReplies}
+use Rattle.machine.proofs.Checking.{when-at, when-none}
+use Rattle.machine.proofs.check.with_replies.Statement.{statement}
+use Rattle.machine.proofs.check.with_replies.Tie as tie
+
+returns : tie.Need-returns
+unfolding withReplies verdictOf
+returns c = rw (c .before .before .before .verdict2 .given .1, when-at _ _ (c .before .bad-reply .ensures) (c .if1 .taken))
+
+returns-2 : tie.Need-returns-2
+unfolding withReplies
+returns-2 c = rw (c .before .verdict .given .1)
+
+returns-3 : tie.Need-returns-3
+unfolding withReplies verdictOf
+returns-3 c = rw (c .before .before .before .verdict2 .given .1, when-none _ _ (c .before .bad-reply .ensures) (c .if1 .left))
+
+pub with-replies-spec : {M : Type 1} → statement M
+with-replies-spec =
+    tie.close
+    (tie.spec
+    (λ c. search needs)
+    (λ c. search needs)
+    (λ c κs. search needs)
+    returns
+    returns-2
+    returns-3)

@@ -1,0 +1,27 @@
+use mathlib.Core.Path.{_≡_, _∙_}
+use Prim.Native.Nat.{_-_}
+use native.Mathlib.Omega.{arith}
+use borrow.Author.Needs.{needs}
+use lib.ListN.{length}
+use Rattle.shape_cases.proofs.fill.Statement.{statement}
+use Rattle.shape_cases.proofs.fill.Tie as tie
+
+abbrev Inv-loop : tie.InvT-loop
+Inv-loop file₀ from to kind i₀ file i = length file ≡ length file₀
+
+abbrev μ-loop : tie.MeasureT-loop
+μ-loop file₀ from to kind i₀ file i = to - i
+
+pub fill-spec : {M : Type 1} → statement M
+fill-spec =
+    tie.close
+    (tie.spec
+    Inv-loop
+    μ-loop
+    (λ c. search needs)
+    (λ c κs. search needs)
+    (λ c. omega arith)
+    (λ c. omega arith)
+    (λ c. c .before .file .given ∙ c .before .before .before .before .before .loop .inv)
+    (λ c. search needs)
+    (λ c. search needs))
