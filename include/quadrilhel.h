@@ -37,7 +37,7 @@ extern "C" {
 #define QH_BASE_RECORDS 4096
 #define QH_RECORD_BYTES 8
 #define QH_BASE_BYTES (QH_RECORD_BYTES * QH_BASE_RECORDS)
-#define QH_LISTING_BYTES (16 + 17 * QH_BASE_RECORDS)
+#define QH_LISTING_BYTES (16 + 18 * QH_BASE_RECORDS)
 #define QH_STACK_ENTRIES 96
 
 /* Refusals, tried in the order 1, 2; then the lowest record with 3 or 4, 3 first

@@ -13,7 +13,7 @@ ghost use Rattle.rules.specs.Answers.{badReply, turnedAway};
 ghost use Rattle.machine.specs.Checking.{withReplies, withState};
 
 // 9 reply: a reply byte not 0 or 1. All are looked at, used or not.
-pub fn with_replies(verdict: Verdict, replies: &[u8]) -> Verdict
+pub(crate) fn with_replies(verdict: Verdict, replies: &[u8]) -> Verdict
     ensures { λ r. ⌜ r ≡ withReplies verdict (now (replies .entry)) ⌝ }
 {
     match verdict {
@@ -29,7 +29,7 @@ pub fn with_replies(verdict: Verdict, replies: &[u8]) -> Verdict
 }
 
 // 10 state: a machine state that is not sound.
-pub fn with_state(verdict: Verdict, state: State) -> Verdict
+pub(crate) fn with_state(verdict: Verdict, state: State) -> Verdict
     ensures { λ r. ⌜ r ≡ withState verdict state ⌝ }
 {
     match verdict {
@@ -44,7 +44,7 @@ pub fn with_state(verdict: Verdict, state: State) -> Verdict
 }
 
 // A refused call has taken no step, and used and logged nothing.
-pub fn turned_away(refusal: Refusal, state: State) -> Ran
+pub(crate) fn turned_away(refusal: Refusal, state: State) -> Ran
     ensures { λ r. ⌜ ((log : List ℕ) → r ≡ turnedAway refusal state log .answer) ⌝ }
 {
     Ran {

@@ -148,7 +148,7 @@ fn deed_of(s: &[u8], places: &[usize], kind: u8, i: usize, x: u16, y: u16) -> De
 }
 
 // What record i does.
-pub fn deed_at(s: &[u8], places: &[usize], i: usize) -> Deed
+pub(crate) fn deed_at(s: &[u8], places: &[usize], i: usize) -> Deed
     requires { ⌜ (1 ≤ i) × (i ≤ count (now s)) × (count (now s) ≤ 4096) ⌝ }
     requires { ⌜ Places (now s) (now places) ⌝ }
     ensures { λ r. ⌜ Steps (now (s .entry)) i r ⌝ }

@@ -12,7 +12,7 @@ pub enum Said {
 }
 
 // Does the outside action x, or says why not and writes nothing. A log with under two bytes left is full.
-pub fn outside(replies: &[u8], log: &mut [u8], used: usize, logged: usize, x: u16) -> Said
+pub(crate) fn outside(replies: &[u8], log: &mut [u8], used: usize, logged: usize, x: u16) -> Said
     requires { ⌜ 2 * logged ≤ length (now log) ⌝ }
     ensures { λ r. ⌜ Spoke (now (replies .entry)) used (now (log .entry)) logged x r (now (log .exit)) ⌝ }
 {

@@ -10,7 +10,7 @@ ghost use Rattle.rules.specs.Numbers.{given, names};
 ghost use Rattle.machine.specs.Places.{placeAt, Places};
 
 // Whether k is in 1..n.
-pub fn names(n: usize, k: usize) -> bool
+pub(crate) fn names(n: usize, k: usize) -> bool
     ensures { λ r. ⌜ r ≡ names n k ⌝ }
 {
     if k == 0 {
@@ -36,7 +36,7 @@ fn past(k: usize) -> usize
 
 // A goto to its target, or 0; a header past its separator or loop end; a separator past its end; a } to i+1 if its item has a separator,
 // else to 0; a loop end to its header. 0 for any other record.
-pub fn place(s: &[u8], i: usize) -> usize
+pub(crate) fn place(s: &[u8], i: usize) -> usize
     requires { ⌜ (i ≤ count (now s)) × (count (now s) ≤ 4096) ⌝ }
     ensures { λ r. ⌜ r ≡ placeAt (now (s .entry)) i ⌝ }
 {
@@ -56,7 +56,7 @@ pub fn place(s: &[u8], i: usize) -> usize
 }
 
 // The places of the records of a routine, worked out once before its run.
-pub fn places(s: &[u8], n: usize) -> [usize; 512]
+pub(crate) fn places(s: &[u8], n: usize) -> [usize; 512]
     requires { ⌜ (n ≡ count (now s)) × (n ≤ 512) ⌝ }
     ensures { λ r. ⌜ Places (now (s .entry)) (take n r) ⌝ }
 {

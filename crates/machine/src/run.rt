@@ -33,7 +33,7 @@ pub enum Moved {
     OnStack(Own),
 }
 
-pub fn move_on(
+pub(crate) fn move_on(
     s: &[u8],
     places: &[usize],
     replies: &[u8],
@@ -63,7 +63,14 @@ pub fn move_on(
 }
 
 // What a run that stops here answers.
-pub fn stop(status: Status, at: usize, stack: Stack, steps: u64, used: usize, logged: usize) -> Ran
+pub(crate) fn stop(
+    status: Status,
+    at: usize,
+    stack: Stack,
+    steps: u64,
+    used: usize,
+    logged: usize,
+) -> Ran
     ensures { λ r. ⌜ r ≡ stops status at stack steps used logged ⌝ }
 {
     Ran {
@@ -77,7 +84,7 @@ pub fn stop(status: Status, at: usize, stack: Stack, steps: u64, used: usize, lo
 
 // Statuses are tried in the order 1, 5, 2, 3, 4. A move to any number outside 1..n sets position 0, which means ended. A single step
 // hands the counter stack on by value; a longer run works on it in place.
-pub fn drive(
+pub(crate) fn drive(
     s: &[u8],
     places: &[usize],
     replies: &[u8],

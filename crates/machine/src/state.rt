@@ -32,7 +32,7 @@ fn stack_sound(stack: Stack) -> bool
 }
 
 // A position 0..n, and a sound stack.
-pub fn sound(n: usize, state: State) -> bool
+pub(crate) fn sound(n: usize, state: State) -> bool
     ensures { λ r. ⌜ r ≡ sound n state ⌝ }
 {
     let at = state.at;
@@ -44,7 +44,7 @@ pub fn sound(n: usize, state: State) -> bool
 }
 
 // The first reply byte that is not 0 or 1, from 1; 0 where there is none.
-pub fn bad_reply(replies: &[u8]) -> usize
+pub(crate) fn bad_reply(replies: &[u8]) -> usize
     ensures { λ r. ⌜ r ≡ badReply (now (replies .entry)) ⌝ }
 {
     let mut i: usize = 0;
@@ -58,7 +58,7 @@ pub fn bad_reply(replies: &[u8]) -> usize
 }
 
 // The start of a run over n records: position 1, or 0 if n = 0, and a fresh stack.
-pub fn start(n: usize) -> State
+pub(crate) fn start(n: usize) -> State
     ensures { λ r. ⌜ r ≡ startState n ⌝ }
 {
     let stack = Counters::fresh();
@@ -69,7 +69,7 @@ pub fn start(n: usize) -> State
 }
 
 // What a refused run hands back: a fresh state that has ended.
-pub fn no_state() -> State
+pub(crate) fn no_state() -> State
     ensures { λ r. ⌜ r ≡ noState ⌝ }
 {
     let stack = Counters::fresh();

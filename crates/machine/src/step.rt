@@ -55,7 +55,7 @@ fn go_back(n: usize, at: usize, stack: Stack) -> Ran
 }
 
 // A deed of the counter stack's own.
-pub fn own_step(n: usize, own: Own, at: usize, stack: Stack) -> Ran
+pub(crate) fn own_step(n: usize, own: Own, at: usize, stack: Stack) -> Ran
     requires { ⌜ stack .depth ≤ 96 ⌝ }
     ensures { λ r. ⌜ Owned n own at stack r ⌝ }
 {

@@ -52,7 +52,7 @@ fn compare(n: usize, entries: &mut [u16; 96], depth: usize, y: u16, yes: usize, 
     Turned::To(no, depth)
 }
 
-pub fn wide(v: u16) -> usize
+pub(crate) fn wide(v: u16) -> usize
     ensures { λ r. ⌜ r ≡ v ⌝ }
 {
     v as usize
@@ -75,7 +75,7 @@ fn go_back(n: usize, entries: &mut [u16; 96], depth: usize) -> Turned
     Turned::To(t, top)
 }
 
-pub fn turn(n: usize, own: Own, entries: &mut [u16; 96], depth: usize) -> Turned
+pub(crate) fn turn(n: usize, own: Own, entries: &mut [u16; 96], depth: usize) -> Turned
     requires { ⌜ (length (now entries) ≡ 96) × (depth ≤ 96) ⌝ }
     ensures { λ r. ⌜ Turns n own (now (entries .entry)) depth r (now (entries .exit)) ⌝ }
 {

@@ -24,7 +24,7 @@ pub enum Role {
 }
 
 // The role of a record, by its kind.
-pub fn role_of(sort: Sort, kind: u8) -> Role
+pub(crate) fn role_of(sort: Sort, kind: u8) -> Role
     ensures { λ r. ⌜ roleMeant r ≡ roleOfKind (sortOf sort) kind ⌝ }
 {
     match sort {

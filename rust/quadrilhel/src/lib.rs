@@ -38,7 +38,7 @@ pub const BASE_LIMIT: usize = 4_096;
 pub const BASE_BYTES: usize = RECORD * BASE_LIMIT;
 /// A buffer of this many bytes has room for every listing: its first line is at
 /// most `length 512 4096`, and no other is longer than `4096 -topeq(512)`.
-pub const LISTING_BYTES: usize = 16 + 17 * BASE_LIMIT;
+pub const LISTING_BYTES: usize = 16 + 18 * BASE_LIMIT;
 
 /// Checks a routine (refusals 1 to 7) and answers how many records it has.
 pub fn check_routine(routine: &[u8]) -> Result<usize, Refusal> {
