@@ -15,11 +15,11 @@ use Rattle.rules.specs.Conditionals.{uncond}
 use Rattle.rules.specs.Convert.{convert}
 use Rattle.rules.specs.Stack.{fresh, top, equals}
 use Rattle.rules.specs.Step.{Mem, Reply, did, stops, perform, Out, go, halt, agree, step}
-use Rattle.rules.specs.Run.{andThen, after, why, startOf, freshMem, Run, oneMore, onward, run, runs}
-use Rattle.rules.specs.Cases.{there-and-back}
+use Rattle.rules.specs.Run.{startOf, freshMem, Run, oneMore, onward, run, runs}
+use Rattle.rules.proofs.Cases.{there-and-back}
 use Rattle.rules.proofs.Records.{ops-length}
 use Rattle.rules.proofs.Computes.{computes}
-use Rattle.faithful.specs.Promises.{Follows, Demand3, RunFollows, Demand3Run, Demand3File}
+use Rattle.faithful.specs.Promises.{andThen, after, why, Follows, Demand3, RunFollows, Demand3Run, Demand3File}
 use Rattle.rules.proofs.Refusals.{admitted}
 use Rattle.faithful.proofs.Inner.Places.{clash, place}
 use Rattle.faithful.proofs.Inner.Simulation.{forkCost, linkCost, cost, costOf, costAt, Way, stay, on, Sim, both, lift, go-halt, at-in}
@@ -250,7 +250,7 @@ start36 = freshMem (1 ∷ 1 ∷ []) (7 ∷ 7 ∷ 7 ∷ 7 ∷ 7 ∷ [])
 
 pub five : after there-and-back 5 (startOf there-and-back) start36
     ≡ go 0 (record { stack = fresh; replies = 1 ∷ 1 ∷ []; used = 2; log = 2 ∷ 0 ∷ 1 ∷ 0 ∷ 7 ∷ []; logged = 2 })
-unfolding computes
+unfolding computes after andThen
 five = refl
 
 pub allowed36 : skip there-and-back ≡ 0

@@ -9,8 +9,7 @@ use lib.ListN.{length-append}
 use lib.Seq.{append-snoc}
 use Rattle.rules.specs.Words.{ℕ, suc, _+_, Bool, true, false, List, [], _∷_, _++_, length}
 use Rattle.rules.specs.Instruction.{Sort, conditional, loop, Op, act, test, jump, label, goto, goto2, header, separator, end, call, return}
-use Rattle.rules.specs.Nesting.{Bracket, bracket, Item, item, parted, closed, read, lowest, goOn, scan, nesting}
-use Rattle.rules.specs.WellBuilt.{Body, nothing, single, looping, oneArm, twoArms}
+use Rattle.rules.specs.Nesting.{Bracket, bracket, Item, item, parted, closed, read, lowest, goOn, scan, nesting, Body, nothing, single, looping, oneArm, twoArms}
 use Rattle.faithful.specs.Place.{Leaves, none-open, in-item, in-second, IsOpen, Misfit, stray-separator, second-separator, separator-in-loop, stray-end, loop-end-in-conditional, end-in-loop, Place5, misfit, unclosed}
 use Rattle.faithful.specs.Promises.{Grammar}
 use Rattle.faithful.proofs.Inner.Places.{over, over-length}

@@ -8,8 +8,7 @@ use mathlib.Core.List.{append-assoc, append-nil}
 use Rattle.rules.specs.Words.{ℕ, zero, suc, _+_, Bool, some, List, [], _∷_, _++_, drop, getElem?}
 use Rattle.rules.specs.Instruction.{Act, Sort, conditional, loop, Op, header, separator, end, ops}
 use Rattle.rules.specs.Numbers.{at}
-use Rattle.rules.specs.Nesting.{bracket}
-use Rattle.rules.specs.WellBuilt.{Body, nothing, single, looping, oneArm, twoArms}
+use Rattle.rules.specs.Nesting.{bracket, Body, nothing, single, looping, oneArm, twoArms}
 use Rattle.rules.specs.Partners.{Role, opens, ends, roleOf, role, endAt, separatorAt, endOf, headerOf}
 use Rattle.rules.proofs.Partners.{backAt, back}
 use Rattle.faithful.specs.Items.{Stands, loop-item, one-arm, two-arms, Partnered, Belongs, by-itself, as-header, as-separator, as-end}

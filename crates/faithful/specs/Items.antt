@@ -2,8 +2,7 @@
 use mathlib.Core.Path.{_≡_}
 use Rattle.rules.specs.Words.{ℕ, suc, _+_, Bool, List, _∷_, _++_, length, drop}
 use Rattle.rules.specs.Instruction.{Act, Sort, conditional, loop, Op, header, separator, end}
-use Rattle.rules.specs.Nesting.{alone, bracket}
-use Rattle.rules.specs.WellBuilt.{Body}
+use Rattle.rules.specs.Nesting.{alone, bracket, Body}
 use Rattle.rules.specs.Partners.{endOf, separatorOf, headerOf}
 
 -- An item stands in L behind its first j records: its sort, the numbers of its header, of its separator (0 where it has none) and of

@@ -5,8 +5,7 @@ use mathlib.Core.Logic.{_⊎_}
 use Prim.Native.Nat.{_≤_}
 use Rattle.rules.specs.Words.{ℕ, suc, Bool, true, false, List, [], _∷_, _++_, length}
 use Rattle.rules.specs.Instruction.{Act, Sort, conditional, loop, Op, header, separator, end}
-use Rattle.rules.specs.Nesting.{Item, item}
-use Rattle.rules.specs.WellBuilt.{Body}
+use Rattle.rules.specs.Nesting.{Item, item, Body}
 
 -- Reading xs leaves these items open, the innermost first: after a body, none; after a header and a body, its item; after a separator
 -- and a body, the item that was open, now in its second arm.

@@ -2,24 +2,38 @@
 use mathlib.Core.Path.{_≡_}
 use mathlib.Core.Logic.{_↔_}
 use Prim.Native.Nat.{_≤_, _<_}
-use Rattle.rules.specs.Words.{ℕ, suc, _+_, _*_, some, List, length, getD}
+use Rattle.rules.specs.Words.{ℕ, zero, suc, _+_, _*_, Option, none, some, List, length, getD}
 use Rattle.rules.specs.declared.Notation.the-variants.{Base, Relative}
+use Rattle.rules.specs.declared.Status.{Status}
 use Rattle.rules.specs.declared.Verdict.the-variants.{Accepted}
 use Rattle.rules.specs.Numbers.{at}
 use Rattle.rules.specs.Record.{bytesOf, records}
 use Rattle.rules.specs.Instruction.{Sort, Op, encode, ops, file}
-use Rattle.rules.specs.Nesting.{nesting}
-use Rattle.rules.specs.WellBuilt.{Body}
+use Rattle.rules.specs.Nesting.{nesting, Body}
 use Rattle.rules.specs.Skip.{skip, convertedLength}
 use Rattle.rules.specs.Convert.{convert}
 use Rattle.rules.specs.Relative.{toRelative, toAbsolute, far}
-use Rattle.rules.specs.Step.{Mem, go, step}
-use Rattle.rules.specs.Run.{startOf, freshMem, after, why, Run, runs}
+use Rattle.rules.specs.Step.{Mem, Out, go, halt, step}
+use Rattle.rules.specs.Run.{startOf, freshMem, Run, runs}
 use Rattle.rules.specs.Answers.{checkRecords, checkRoutine}
 use Rattle.faithful.specs.Place.{Place5}
 use Rattle.faithful.specs.Items.{Stands, Partnered, Belongs}
 
 -- ## Demand 3 (proofs/Demand)
+
+-- So many steps, every one of them taken.
+unfoldable pub andThen : (ℕ → Mem → Out) → Out → Out
+andThen rest (go i m) = rest i m
+andThen rest (halt w) = halt w
+
+unfoldable pub after : List Op → ℕ → ℕ → Mem → Out
+after L zero i m = go i m
+after L (suc c) i m = andThen (λ j m′. after L c j m′) (step L i m)
+
+-- Why a step is not taken: none where it is.
+unfoldable pub why : Out → Option Status
+why (go i m) = none
+why (halt w) = some w
 
 -- The routine L of n records has taken s steps from its start and stands at i with m: counter stack, replies used, log, actions logged.
 -- Then its base, after a count of steps from s to (2n+1)·s, has the same m, and there takes its next step, or is stopped by the same

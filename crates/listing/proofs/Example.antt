@@ -6,7 +6,7 @@ use Rattle.rules.specs.declared.Refusal.the-variants.{Growth, Nesting}
 use Rattle.rules.specs.Record.{rec}
 use Rattle.rules.specs.Instruction.{file}
 use Rattle.rules.specs.Refusals.{Told, told}
-use Rattle.rules.specs.Cases.{listed}
+use Rattle.rules.proofs.Cases.{listed}
 use Rattle.rules.proofs.Computes.{computes}
 use Rattle.listing.specs.Text.{ascii, digits, decimal, action, sign, instruction, line, lines, listing, textOf, refusedAt, refused}
 

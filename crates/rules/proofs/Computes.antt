@@ -16,9 +16,9 @@ use Rattle.rules.specs.Convert.{convert}
 use Rattle.rules.specs.Relative.{relativeJump, relativeAt, toRelative, absoluteAt, toAbsolute, farFrom, far}
 use Rattle.rules.specs.Stack.{full, pushed, without, popped, top, nonempty, equals}
 use Rattle.rules.specs.Step.{deed, withStack, logging, reply, noReplyLeft, logIsFull, perform, agree, branch, leaving, does, stepAt, step}
-use Rattle.rules.specs.Run.{statusNumber, andThen, after, why, onward, run, startOf, freshMem, runs}
+use Rattle.rules.specs.Run.{statusNumber, onward, run, startOf, freshMem, runs}
 use Rattle.rules.specs.Answers.{routineChecks, short, badReplyFrom, badReply, entriesSound, sound, checkRecords, checkRoutine, filled, cleared, baseRecords, baseCount, converting, relating, absoluting, ran, turnedAway, unless, noState, running, runRoutine, runBase, memAt, stepping, stepRoutine, stepBase}
 
 unfoldable pub computes : Unit {0}
-unfolding at each given past names moveTo rows relativeRows rowOf actOf written decode xOf yOf encode ops file told when whenAt orElse first verdictOf verdict ragged most long listed kindFault inRow stackAction hasStack fieldFault fault faultFrom recordChecks bracket parted closed read lowest goOn scan nesting addedBy added adding plainTest skipFrom skip addedAll convertedLength grown members seconds renumber sent laid removed isLabel labelFrom labelAfter target target2 unlabel labels chain uncall calls roleOf role endAt endFrom separatorAt separatorFrom endOf separatorOf opening isHeader headerUpTo headerOf unloop loops itsSeparator uncond conditionals convert relativeJump relativeAt toRelative absoluteAt toAbsolute farFrom far full pushed without popped top nonempty equals deed withStack logging reply noReplyLeft logIsFull perform agree branch leaving does stepAt step statusNumber andThen after why onward run startOf freshMem runs routineChecks short badReplyFrom badReply entriesSound sound checkRecords checkRoutine filled cleared baseRecords baseCount converting relating absoluting ran turnedAway unless noState running runRoutine runBase memAt stepping stepRoutine stepBase
+unfolding at each given past names moveTo rows relativeRows rowOf actOf written decode xOf yOf encode ops file told when whenAt orElse first verdictOf verdict ragged most long listed kindFault inRow stackAction hasStack fieldFault fault faultFrom recordChecks bracket parted closed read lowest goOn scan nesting addedBy added adding plainTest skipFrom skip addedAll convertedLength grown members seconds renumber sent laid removed isLabel labelFrom labelAfter target target2 unlabel labels chain uncall calls roleOf role endAt endFrom separatorAt separatorFrom endOf separatorOf opening isHeader headerUpTo headerOf unloop loops itsSeparator uncond conditionals convert relativeJump relativeAt toRelative absoluteAt toAbsolute farFrom far full pushed without popped top nonempty equals deed withStack logging reply noReplyLeft logIsFull perform agree branch leaving does stepAt step statusNumber onward run startOf freshMem runs routineChecks short badReplyFrom badReply entriesSound sound checkRecords checkRoutine filled cleared baseRecords baseCount converting relating absoluting ran turnedAway unless noState running runRoutine runBase memAt stepping stepRoutine stepBase
 computes = tt

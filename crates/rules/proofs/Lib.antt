@@ -7,4 +7,5 @@ pub mod Length
 pub mod Fits
 pub mod Runs
 pub mod Refusals
+pub mod Cases
 pub mod Table

@@ -5,7 +5,7 @@ use mathlib.Core.List.{List, [], _∷_}
 use Rattle.rules.specs.declared.Status.the-variants.{Spent}
 use Rattle.rules.specs.Instruction.{jump}
 use Rattle.rules.specs.Run.{runs}
-use Rattle.rules.specs.Cases.{Cases, Beside}
+use Rattle.rules.proofs.Cases.{Cases, Beside}
 use Rattle.rules.proofs.Computes.{computes}
 
 for-ever : (budget : ℕ) → (runs (jump 1 ∷ []) [] [] budget .steps ≡ budget) × (runs (jump 1 ∷ []) [] [] budget .status ≡ Spent) × (runs (jump 1 ∷ []) [] [] budget .mem .logged ≡ 0)

@@ -5,7 +5,6 @@ pub mod Table
 pub mod Instruction
 pub mod Refusals
 pub mod Checks
-pub mod WellBuilt
 pub mod Nesting
 pub mod Skip
 pub mod SecondLevel
@@ -20,4 +19,3 @@ pub mod Stack
 pub mod Step
 pub mod Run
 pub mod Answers
-pub mod Cases

@@ -3,23 +3,10 @@ use Rattle.rules.specs.Words.{ℕ, zero, suc, _+_, _-_, cond, List, [], 
 use Rattle.rules.specs.Numbers.{each}
 use Rattle.rules.specs.Record.{Rec, rec}
 
--- The kinds 4, 17, 18 and 19.
-abbrev jumpTo : ℕ → Rec
-jumpTo k = rec 4 k 0
-
-abbrev forward : ℕ → Rec
-forward k = rec 17 k 0
-
-abbrev backward : ℕ → Rec
-backward k = rec 18 k 0
-
-abbrev stop : Rec
-stop = rec 19 0 0
-
--- At i, ##0 becomes stop; other ##k becomes forward k-i if k ≥ i, else backward i-k.
+-- At i, ##0 (kind 4) becomes stop (19); other ##k becomes forward k-i (17) if k ≥ i, else backward i-k (18).
 unfoldable pub relativeJump : ℕ → ℕ → Rec
-relativeJump i zero = stop
-relativeJump i (suc k) = cond (leb i (suc k)) (forward (suc k - i)) (backward (i - suc k))
+relativeJump i zero = rec 19 0 0
+relativeJump i (suc k) = cond (leb i (suc k)) (rec 17 (suc k - i) 0) (rec 18 (i - suc k) 0)
 
 unfoldable pub relativeAt : ℕ → Rec → Rec
 relativeAt i r = cond (eqb (r .kind) 4) (relativeJump i (r .x)) r
@@ -30,9 +17,9 @@ toRelative rs = each relativeAt 1 rs
 -- Back: forward k becomes ##(k+i); backward k becomes ##(i-k) if k < i, else ##0; stop becomes ##0.
 unfoldable pub absoluteAt : ℕ → Rec → Rec
 absoluteAt i r =
-    cond (eqb (r .kind) 17) (jumpTo (r .x + i))
-    (cond (eqb (r .kind) 18) (jumpTo (cond (ltb (r .x) i) (i - r .x) 0))
-    (cond (eqb (r .kind) 19) (jumpTo 0) r))
+    cond (eqb (r .kind) 17) (rec 4 (r .x + i) 0)
+    (cond (eqb (r .kind) 18) (rec 4 (cond (ltb (r .x) i) (i - r .x) 0) 0)
+    (cond (eqb (r .kind) 19) (rec 4 0 0) r))
 
 unfoldable pub toAbsolute : List Rec → List Rec
 toAbsolute rs = each absoluteAt 1 rs

@@ -1,5 +1,5 @@
 -- Runs: the iterated step, with a budget.
-use Rattle.rules.specs.Words.{ℕ, zero, suc, Bool, cond, Option, none, some, List, length, eqb}
+use Rattle.rules.specs.Words.{ℕ, zero, suc, Bool, cond, List, length, eqb}
 use Rattle.rules.specs.declared.Status.{Status}
 use Rattle.rules.specs.declared.Status.the-variants.{Ended, NoReply, LogFull, StackFull, Spent}
 use Rattle.rules.specs.Instruction.{Op}
@@ -14,20 +14,6 @@ statusNumber NoReply = 2
 statusNumber LogFull = 3
 statusNumber StackFull = 4
 statusNumber Spent = 5
-
--- So many steps, every one of them taken.
-unfoldable pub andThen : (ℕ → Mem → Out) → Out → Out
-andThen rest (go i m) = rest i m
-andThen rest (halt w) = halt w
-
-unfoldable pub after : List Op → ℕ → ℕ → Mem → Out
-after L zero i m = go i m
-after L (suc c) i m = andThen (λ j m′. after L c j m′) (step L i m)
-
--- Why a step is not taken: none where it is.
-unfoldable pub why : Out → Option Status
-why (go i m) = none
-why (halt w) = some w
 
 -- Where a run stands, what is then there, the steps taken and the status.
 pub record Run : Type 0 where

@@ -10,8 +10,7 @@ use borrow.Author.Tests.{le-leb, lt-leb, eqb-true, eqb-false}
 use Rattle.rules.specs.Words.{ℕ, zero, suc, _+_, Bool, true, false, cond, Option, none, some, List, [], _∷_, _++_, map, length, eqb, leb}
 use Rattle.rules.specs.Instruction.{pop, compare, conditional, Op, act, jump, header, separator, end}
 use Rattle.rules.specs.Numbers.{at, given, past, names, moveTo}
-use Rattle.rules.specs.Nesting.{bracket}
-use Rattle.rules.specs.WellBuilt.{Body, nothing, single, twoArms}
+use Rattle.rules.specs.Nesting.{bracket, Body, nothing, single, twoArms}
 use Rattle.rules.specs.Partners.{role, roleOf, separatorAt}
 use Rattle.rules.specs.SecondLevel.{members, sent}
 use Rattle.rules.specs.Calls.{chain}

@@ -8,8 +8,7 @@ use mathlib.Core.List.{tail, head?, append-assoc, append-nil}
 use Rattle.rules.specs.Words.{ℕ, zero, suc, _+_, Bool, true, false, cond, _&&_, Option, none, some, List, [], _∷_, _++_, length, drop, getD, getElem?}
 use Rattle.rules.specs.Instruction.{Act, Sort, conditional, loop, Op, header, separator, end}
 use Rattle.rules.specs.Numbers.{at, given, past}
-use Rattle.rules.specs.Nesting.{alone, bracket}
-use Rattle.rules.specs.WellBuilt.{Body, nothing, single, looping, oneArm, twoArms}
+use Rattle.rules.specs.Nesting.{alone, bracket, Body, nothing, single, looping, oneArm, twoArms}
 use Rattle.rules.specs.Partners.{Role, opens, parts, ends, other, roleOf, role, endAt, endFrom, separatorAt, separatorFrom, endOf, separatorOf, opening, isHeader, headerUpTo, headerOf}
 use Rattle.rules.proofs.Records.{at-getD}
 use Rattle.rules.proofs.Partners.{backAt, roleAt, back, header-back}

@@ -7,8 +7,7 @@ use mathlib.Core.List.{map-append}
 use lib.Dec.{T, leb→le}
 use Rattle.rules.specs.Words.{ℕ, zero, suc, Bool, true, false, not, List, [], _∷_, _++_, map, length, leb}
 use Rattle.rules.specs.Instruction.{Act, outside, push, pop, compare, Sort, conditional, loop, Op, act, test, jump, label, goto, goto2, header, separator, end, call, return}
-use Rattle.rules.specs.Nesting.{bracket}
-use Rattle.rules.specs.WellBuilt.{Body, nothing, single}
+use Rattle.rules.specs.Nesting.{bracket, Body, nothing, single}
 use Rattle.rules.specs.Skip.{adding, plainTest}
 use Rattle.rules.specs.Partners.{other, roleOf, role}
 use Rattle.rules.specs.SecondLevel.{Group, _▹_, stays, members, sent}
