@@ -18,22 +18,13 @@ use Rattle.rules.specs.declared.Notation.the-variants.{Routine}
 use Rattle.rules.specs.declared.Ran.{Ran}
 use Rattle.rules.specs.declared.State.{State}
 use Rattle.rules.specs.Record.{count}
-use Rattle.rules.specs.Numbers.{moveTo}
 use Rattle.rules.specs.Instruction.{ops}
 use Rattle.rules.specs.Refusals.{when, whenAt, orElse, first, verdictOf, verdict}
 use Rattle.rules.specs.Checks.{most, long, ragged, faultFrom, recordChecks}
-use Rattle.rules.specs.Run.{startOf, freshMem, run, runs}
+use Rattle.rules.specs.Run.{run, runs}
 use Rattle.rules.specs.Answers.{Called, routineChecks, badReply, sound, unless, turnedAway, noState, running, ran, stepping, memAt, entriesSound}
-use Rattle.rules.proofs.Records.{ops-length}
-use Rattle.machine.specs.States.{startState}
+use Rattle.rules.proofs.Refusals.{first-append}
 use Rattle.machine.specs.Checking.{withReplies, withState}
-use Rattle.machine.proofs.Running.{move-least}
-
-first-append : (cs ds : List (Option Refusal)) → first (cs ++ ds) ≡ orElse (first cs) (first ds)
-unfolding first orElse
-first-append [] ds = refl
-first-append (none ∷ cs) ds = first-append cs ds
-first-append (some r ∷ cs) ds = refl
 
 first-one : (c : Option Refusal) → first (c ∷ []) ≡ c
 unfolding first orElse
@@ -80,16 +71,6 @@ unfolding verdictOf
 refused none n r e = absurd (let z : _≡_ {A = ℕ} 0 1 = cc in omega arith)
 refused (some q) n r e = cc
 
--- A run starts fresh, at position 1, or 0 if there is no record.
-pub starts : (s replies log : List ℕ) (budget n : ℕ) (from : State) → n ≡ count s → from ≡ startState n
-    → run (ops s) budget (from .at) (memAt from replies log) ≡ runs (ops s) replies log budget
-unfolding runs startOf freshMem memAt startState
-starts s replies log budget n from e h = rw (h, e, ops-length s)
-
-pub start-in : (s : List ℕ) (n : ℕ) (from : State) → n ≡ count s → from ≡ startState n → (from .at ≤ count s) × (from .stack .depth ≤ 96)
-unfolding startState
-start-in s n from e h = rw (h, e) (move-least (count s) 1, omega arith)
-
 -- ## What a call answers
 
 module _ (checks : List (Option Refusal)) (s replies : List ℕ) where
@@ -114,12 +95,10 @@ module _ (checks : List (Option Refusal)) (s replies : List ℕ) where
       run-refused r e from f a h =
           rw (refused (first runChecks) (count s) r (sym run-verdict ∙ e)) (record { answers = h log ∙ rw f; logs = refl })
 
-      pub run-called : (k : ℕ) → w ≡ Accepted k → (from : State) → from ≡ startState k → (a : Ran) (log′ : List ℕ)
-          → Called (ran (run (ops s) budget (from .at) (memAt from replies log))) a log′ → Called (running checks s replies log budget) a log′
+      pub run-called : (k : ℕ) → w ≡ Accepted k → (a : Ran) (log′ : List ℕ)
+          → Called (ran (runs (ops s) replies log budget)) a log′ → Called (running checks s replies log budget) a log′
       unfolding running unless
-      run-called k e from f a log′ h =
-          let x = run-accepted k e in
-          rw (x .0, ← starts s replies log budget k from (x .1) f) h
+      run-called k e a log′ h = rw (run-accepted k e .0) h
 
   module _ (m : State) (v w z : Verdict) (p : v ≡ verdict checks (count s)) (q : w ≡ withReplies v replies) (o : z ≡ withState w m) where
     step-verdict : z ≡ verdictOf (first (stepChecks m)) (count s)

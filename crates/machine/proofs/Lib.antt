@@ -1,9 +1,9 @@
 pub mod Stacks
 pub mod States
+pub mod Moves
 pub mod Places
 pub mod Deeds
 pub mod Asking
-pub mod Moving
 pub mod Turning
 pub mod Running
 pub mod Stepping

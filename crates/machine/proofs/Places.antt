@@ -12,7 +12,7 @@ use Rattle.rules.specs.Record.{Rec, count}
 use Rattle.rules.specs.Instruction.{Sort, conditional, loop, Op, ops}
 use Rattle.rules.specs.Numbers.{given}
 use Rattle.rules.specs.Partners.{Role, opens, parts, ends, other, role, endAt, endFrom, separatorAt, separatorFrom, endOf, separatorOf}
-use Rattle.machine.specs.Places.{placeAt, Places}
+use Rattle.machine.specs.Places.{placeAt}
 use Rattle.rules.proofs.Partners.{end-out, separator-out}
 use Rattle.rules.proofs.Records.{ops-length}
 
@@ -60,16 +60,3 @@ pub given-some : (k x : ℕ) → ¬ (k ≡ 0) → given k x ≡ x
 unfolding given
 given-some zero x h = absurd (h refl)
 given-some (suc k) x h = refl
-
--- ## Places worked out one after another
-
-pub one-more : (s found : List ℕ) (k v : ℕ) → k < length found → v ≡ placeAt s (suc k) → ((j : ℕ) → j < k → getD found j 0 ≡ placeAt s (suc j))
-    → (j : ℕ) → j < suc k → getD (set found k v) j 0 ≡ placeAt s (suc j)
-one-more s found k v l e h j q = by (eqb j k) refl
-  where
-    by : (b : Bool) → eqb j k ≡ b → getD (set found k v) j 0 ≡ placeAt s (suc j)
-    by true p = let z = eqb-true j k p in rw z (getD-set-same found k v 0 l ∙ e)
-    by false p = let z = eqb-false j k p in getD-set-other found k j v 0 z ∙ h j (omega arith)
-
-pub the-first : (s found : List ℕ) (n : ℕ) → ((j : ℕ) → j < n → getD found j 0 ≡ placeAt s (suc j)) → Places s (take n found)
-the-first s found n h j l = let q : j < n = omega (arith, length-take n found) in rw (getD-take n found j 0 q) (h j q)

@@ -1,73 +1,54 @@
 -- A run turn by turn: what is left of it, with the steps taken, is the whole.
 use mathlib.Core.Path.{_≡_, refl, sym, ap, _∙_}
-use Prim.Native.Nat.{ℕ, zero, suc, _+_, _-_, _*_, _≤_, _<_}
+use Prim.Native.Nat.{ℕ, suc, _+_, _-_, _*_, _≤_, _<_}
 use native.Mathlib.Omega.{arith}
 use native.Mathlib.Nat.{add-zero, sub-zero}
 use native.Mathlib.Numerals.{add-one}
-use mathlib.Core.Bool.{Bool, true, false, cond}
+use mathlib.Core.Bool.{true, false}
 use mathlib.Core.List.{List}
-use lib.ListN.{length}
-use lib.Dec.{leb}
-use borrow.Author.Tests.{ne-eqb, le-leb, leb-true}
+use lib.ListN.{length, getD}
+use borrow.Author.Tests.{ne-eqb}
 use Rattle.rules.specs.declared.Stack.{Stack}
 use Rattle.rules.specs.declared.Status.{Status}
-use Rattle.rules.specs.declared.Status.the-variants.{Ended, Spent}
+use Rattle.rules.specs.declared.Status.the-variants.{Ended, StackFull, Spent}
 use Rattle.rules.specs.declared.Ran.{Ran}
 use Rattle.rules.specs.Record.{count}
 use Rattle.rules.specs.Numbers.{names, moveTo}
 use Rattle.rules.specs.Instruction.{ops}
-use Rattle.rules.specs.Stack.{stack}
+use Rattle.rules.specs.Stack.{stack, fresh}
 use Rattle.rules.specs.Step.{Mem, go, halt, step}
-use Rattle.rules.specs.Run.{Run, stopped, run}
+use Rattle.rules.specs.Run.{Run, stopped, startOf, freshMem, run, runs}
 use Rattle.rules.specs.Answers.{Called, ran}
+use Rattle.rules.proofs.Records.{ops-length}
 use Rattle.rules.proofs.Runs.{plus, plus-zero, run-zero, run-at-zero, plus-go, plus-halt}
-use Rattle.machine.specs.declared.deed.Own.{Own}
-use Rattle.machine.specs.Asking.{mem}
-use Rattle.machine.specs.Deeds.{owns}
-use Rattle.machine.specs.Moving.{Asks}
+use Rattle.machine.specs.declared.deed.Deed.{Deed}
+use Rattle.machine.specs.declared.deed.Deed.the-variants.{Leap, Ask}
+use Rattle.machine.specs.Deeds.{done, Steps, Deeds}
+use Rattle.machine.specs.Asking.{mem, Heard, Spoke}
 use Rattle.machine.specs.Stopping.{stops}
 use Rattle.machine.specs.Turning.{Goes}
-
-pub move-in : (n k : ℕ) → k ≤ n → moveTo n k ≡ k
-unfolding moveTo names
-move-in n zero h = refl
-move-in n (suc k) h = rw (le-leb (suc k) n h)
-
-pub move-least : (n k : ℕ) → moveTo n k ≤ n
-unfolding moveTo names
-move-least n zero = omega arith
-move-least n (suc k) = by (leb (suc k) n) refl
-  where
-    by : (b : Bool) → leb (suc k) n ≡ b → cond b (suc k) 0 ≤ n
-    by true e = leb-true (suc k) n e
-    by false e = omega arith
-
-pub names-zero : (n k : ℕ) → k ≡ 0 → names n k ≡ false
-unfolding names
-names-zero n k e = rw e
-
-pub names-leb : (n k : ℕ) → ¬ (k ≡ 0) → names n k ≡ leb k n
-unfolding names
-names-leb n zero h = absurd (h refl)
-names-leb n (suc k) h = refl
-
-pub named : (n k : ℕ) → names n k ≡ true → (1 ≤ k) × (k ≤ n)
-unfolding names
-named n zero e = absurd (let z : _≡_ {A = ℕ} 0 1 = cc in omega arith)
-named n (suc k) e = (omega arith, leb-true (suc k) n e)
+use Rattle.machine.proofs.Moves.{named, move-named, move-out}
 
 -- Where a run of the file s stands: the locals, and that they come to the whole run.
-pub record Going (s replies : List ℕ) (budget : ℕ) (whole : Run) (log₀ log : List ℕ) (i : ℕ) (es : List ℕ) (d used logged steps : ℕ) : Type 0 where
+pub record Going (s replies : List ℕ) (budget : ℕ) (log₀ log : List ℕ) (i : ℕ) (es : List ℕ) (d used logged steps : ℕ) : Type 0 where
   pub entries : length es ≡ 96
   pub depth : d ≤ 96
   pub within : steps ≤ budget
-  pub asked : (used ≤ steps) × (logged ≤ steps)
   pub room : 2 * logged ≤ length log
   pub same : length log ≡ length log₀
-  pub rest : whole ≡ plus steps (run (ops s) (budget - steps) (moveTo (count s) i) (mem (stack es d) replies used log logged))
+  pub rest : runs (ops s) replies log₀ budget ≡ plus steps (run (ops s) (budget - steps) (moveTo (count s) i) (mem (stack es d) replies used log logged))
 
-pub begins : (s : List ℕ) (budget i : ℕ) (m : Mem) → i ≤ count s → run (ops s) budget i m ≡ plus 0 (run (ops s) (budget - 0) (moveTo (count s) i) m)
-begins s budget i m h = sym (plus-zero _ ∙ rw (sub-zero, move-in (count s) i h))
+-- At position 1, or at 0 if there is no record, with a fresh stack.
+pub begins : (s replies log : List ℕ) (budget : ℕ) → Going s replies budget log log 1 (fresh .entries) 0 0 0 0
+unfolding runs startOf freshMem
+begins s replies log budget = record {
+  entries = refl;
+  depth = omega arith;
+  within = omega arith;
+  room = omega arith;
+  same = refl;
+  rest = sym (plus-zero _ ∙ rw (sub-zero, ops-length s));
+}
 
 -- A run that stops answers this.
 pub answered : (r : Run) (steps i : ℕ) (m : Mem) (w : Status) → r ≡ plus steps (stopped i m w)
@@ -75,64 +56,66 @@ pub answered : (r : Run) (steps i : ℕ) (m : Mem) (w : Status) → r ≡ plus s
 unfolding ran plus
 answered r steps i m w e a h log′ q = record { answers = h ∙ rw (e, add-zero); logs = q ∙ rw e }
 
-module _ {s replies : List ℕ} {budget : ℕ} {whole : Run} {log₀ log : List ℕ} {i : ℕ} {es : List ℕ} {d used logged steps : ℕ}
-    (g : Going s replies budget whole log₀ log i es d used logged steps) where
+module _ {s replies : List ℕ} {budget : ℕ} {log₀ log : List ℕ} {i : ℕ} {es : List ℕ} {d used logged steps : ℕ}
+    (g : Going s replies budget log₀ log i es d used logged steps) where
   abbrev here : Mem
   here = mem (stack es d) replies used log logged
 
+  abbrev whole : Run
+  whole = runs (ops s) replies log₀ budget
+
   pub ends : names (count s) i ≡ false → whole ≡ plus steps (stopped 0 here Ended)
-  unfolding moveTo
-  ends e = g .rest ∙ rw e (ap (plus steps) (run-at-zero (ops s) (budget - steps) here))
+  ends e = g .rest ∙ rw (move-out (count s) i e) (ap (plus steps) (run-at-zero (ops s) (budget - steps) here))
 
   module _ (e : names (count s) i ≡ true) where
-    stands : moveTo (count s) i ≡ i
-    stands = let h = named (count s) i e in move-in (count s) i (h .1)
-
     pub spends : steps ≡ budget → whole ≡ plus steps (stopped i here Spent)
     spends q =
         let z : budget - steps ≡ 0 = omega arith in
         let h = named (count s) i e in
-        g .rest ∙ rw (stands, z) (ap (plus steps) (run-zero (ops s) i here ∙ rw (ne-eqb i 0 (λ p. omega arith))))
+        g .rest ∙ rw (move-named (count s) i e, z) (ap (plus steps) (run-zero (ops s) i here ∙ rw (ne-eqb i 0 (λ p. omega arith))))
 
-    module _ (q : ¬ (steps ≡ budget)) where
+    module _ (q : ¬ (steps ≡ budget)) (o : Deed) (a : Steps s i o) where
       left : budget - steps ≡ suc (budget - suc steps)
       left = omega (arith, g .within, q)
 
-      -- A single step, and nothing of it done yet.
-      pub last : budget ≡ 1 → whole ≡ run (ops s) 1 i (mem (stack es d) replies 0 log 0)
-      last p =
-          let z : steps ≡ 0 = omega (arith, g .within, q) in
-          let u : used ≡ 0 = omega (arith, g .asked) in
-          let l : logged ≡ 0 = omega (arith, g .asked) in
-          g .rest ∙ rw (z, u, l, p, stands) (plus-zero _)
+      -- A step that is not taken.
+      halts : (w : Status) → done (count s) o here ≡ halt w → whole ≡ plus steps (stopped i here w)
+      halts w h = g .rest ∙ rw (move-named (count s) i e, left) (plus-halt (ops s) i here (budget - suc steps) steps w (a here ∙ h))
 
-      pub halts : (w : Status) → step (ops s) i here ≡ halt w → whole ≡ plus steps (stopped i here w)
-      halts w h = g .rest ∙ rw (stands, left) (plus-halt (ops s) i here (budget - suc steps) steps w h)
+      pub halts-full : ((r : List ℕ) (u : ℕ) (l : List ℕ) (n : ℕ) → done (count s) o (mem (stack es d) r u l n) ≡ halt StackFull)
+          → whole ≡ plus steps (stopped i here StackFull)
+      halts-full h = halts StackFull (h replies used log logged)
 
       -- A step that is taken.
-      pub goes : (k : ℕ) (log′ es′ : List ℕ) (d′ used′ logged′ : ℕ) → step (ops s) i here ≡ go (moveTo (count s) k) (mem (stack es′ d′) replies used′ log′ logged′)
-          → length es′ ≡ 96 → d′ ≤ 96 → (used′ ≤ steps + 1) × (logged′ ≤ steps + 1) → 2 * logged′ ≤ length log′ → length log′ ≡ length log₀
-          → Going s replies budget whole log₀ log′ k es′ d′ used′ logged′ (steps + 1)
-      goes k log′ es′ d′ used′ logged′ h a b o c f = record {
-        entries = a;
-        depth = b;
+      goes : (k : ℕ) (log′ es′ : List ℕ) (d′ used′ logged′ : ℕ) → done (count s) o here ≡ go (moveTo (count s) k) (mem (stack es′ d′) replies used′ log′ logged′)
+          → length es′ ≡ 96 → d′ ≤ 96 → 2 * logged′ ≤ length log′ → length log′ ≡ length log₀
+          → Going s replies budget log₀ log′ k es′ d′ used′ logged′ (steps + 1)
+      goes k log′ es′ d′ used′ logged′ h b c f l = record {
+        entries = b;
+        depth = c;
         within = omega (arith, g .within, q);
-        asked = o;
-        room = c;
-        same = f;
-        rest = g .rest ∙ rw (stands, add-one steps, left) (plus-go (ops s) i here (budget - suc steps) steps (moveTo (count s) k) (mem (stack es′ d′) replies used′ log′ logged′) h);
+        room = f;
+        same = l;
+        rest = g .rest ∙ rw (move-named (count s) i e, add-one steps, left) (plus-go (ops s) i here (budget - suc steps) steps (moveTo (count s) k) (mem (stack es′ d′) replies used′ log′ logged′) (a here ∙ h));
       }
 
-      module _ (k : ℕ) (log′ : List ℕ) where
-        pub goes-to : log′ ≡ log → ((m : Mem) → step (ops s) i m ≡ go (moveTo (count s) k) m)
-            → Going s replies budget whole log₀ log′ k es d used logged (steps + 1)
-        goes-to e h = rw e (goes k log es d used logged (h here) (g .entries) (g .depth) (omega arith) (g .room) (g .same))
+      pub goes-turned : (k d′ : ℕ) (es′ : List ℕ) → Goes (count s) o es d k d′ es′ → Going s replies budget log₀ log k es′ d′ used logged (steps + 1)
+      goes-turned k d′ es′ h =
+          goes k log es′ d′ used logged (h .goes replies used log logged) (h .entries ∙ g .entries) (h .depth) (g .room) (g .same)
 
-        pub goes-asked : Asks s i replies used log logged k log′ → length log′ ≡ length log
-            → Going s replies budget whole log₀ log′ k es d (used + 1) (logged + 1) (steps + 1)
-        goes-asked h e = goes k log′ es d (used + 1) (logged + 1) (h .goes (stack es d)) (g .entries) (g .depth) (omega arith) (rw e (h .room)) (e ∙ g .same)
+      -- An outside action, which leaves the stack.
+      module _ (x t f : ℕ) (p : o ≡ Ask x t f) (es′ : List ℕ) (u : es′ ≡ es) where
+        pub halts-said : (w : Status) → ((n : ℕ) (r : Stack) → done n (Ask x t f) (mem r replies used log logged) ≡ halt w) → whole ≡ plus steps (stopped i here w)
+        halts-said w h = halts w (rw p (h (count s) (stack es d)))
 
-        pub goes-turned : (o : Own) → log′ ≡ log → ((m : Mem) → step (ops s) i m ≡ owns (count s) o m) → (d′ : ℕ) (es′ : List ℕ)
-            → Goes (count s) o es d k d′ es′ → Going s replies budget whole log₀ log′ k es′ d′ used logged (steps + 1)
-        goes-turned o e h d′ es′ q =
-            rw e (goes k log es′ d′ used logged (h here ∙ q .goes replies used log logged) (q .entries ∙ g .entries) (q .depth) (omega arith) (g .room) (g .same))
+        pub goes-said : (k : ℕ) (log′ : List ℕ) → Heard replies used log logged x t f k log′ → length log′ ≡ length log
+            → Going s replies budget log₀ log′ k es′ d (used + 1) (logged + 1) (steps + 1)
+        goes-said k log′ h l =
+            rw u (goes k log′ es d (used + 1) (logged + 1) (rw p (h .goes (count s) (stack es d))) (g .entries) (g .depth) (rw l (h .room)) (l ∙ g .same))
+
+-- The deed of the record where the run stands.
+pub deed-here : {s : List ℕ} {ds : List Deed} → Deeds s ds → (i : ℕ) → names (count s) i ≡ true → Steps s i (getD ds (i - 1) (Leap 0))
+deed-here {s = s} {ds = ds} h i e =
+    let b = named (count s) i e in
+    let z : suc (i - 1) ≡ i = omega arith in
+    rw z at (h .steps (i - 1) (omega arith))

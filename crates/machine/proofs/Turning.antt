@@ -1,4 +1,4 @@
--- The counter stack's own deeds by its top.
+-- The deeds on the counter stack, by its top.
 use mathlib.Core.Path.{_≡_, refl, sym, ap, _∙_}
 use Prim.Native.Nat.{ℕ, zero, suc, _+_, _-_, _≤_, _<_}
 use native.Mathlib.Omega.{arith}
@@ -13,56 +13,60 @@ use Rattle.rules.specs.declared.Status.the-variants.{StackFull}
 use Rattle.rules.specs.Numbers.{names, moveTo}
 use Rattle.rules.specs.Stack.{stack, full, pushed, popped, top, nonempty, equals}
 use Rattle.rules.specs.Step.{Mem, withStack, go, halt, perform, agree, branch, leaving}
-use Rattle.machine.specs.declared.deed.Own.the-variants.{Push, Pop, Compare, Return}
-use Rattle.machine.specs.declared.turn.Turned.the-variants.{To, Full}
+use Rattle.machine.specs.declared.deed.Deed.the-variants.{Leap, Ask, Push, Pop, Compare, Return}
+use Rattle.machine.specs.declared.turn.Turned.the-variants.{To, Full, Asks}
 use Rattle.machine.specs.Asking.{mem}
-use Rattle.machine.specs.Deeds.{owns}
+use Rattle.machine.specs.Deeds.{done}
 use Rattle.machine.specs.Turning.{Turns}
 use Rattle.machine.proofs.Stacks.{top-zero, top-at, popped-none, popped-some}
 
 module _ (n : ℕ) (m : Mem) where
-  pub push-goes : (y k : ℕ) → m .stack .depth < 96 → owns n (Push y k) m ≡ go (moveTo n k) (withStack (pushed y (m .stack)) m)
-  unfolding owns perform branch agree full
+  pub push-goes : (y k : ℕ) → m .stack .depth < 96 → done n (Push y k) m ≡ go (moveTo n k) (withStack (pushed y (m .stack)) m)
+  unfolding done perform branch agree full
   push-goes y k h = rw (lt-leb 96 (m .stack .depth) h)
 
-  pub push-full : (y k : ℕ) → 96 ≤ m .stack .depth → owns n (Push y k) m ≡ halt StackFull
-  unfolding owns perform branch full
+  pub push-full : (y k : ℕ) → 96 ≤ m .stack .depth → done n (Push y k) m ≡ halt StackFull
+  unfolding done perform branch full
   push-full y k h = rw (le-leb 96 (m .stack .depth) h)
 
-  pub pop-none : (t f : ℕ) → top (m .stack) ≡ none → owns n (Pop t f) m ≡ go (moveTo n f) m
-  unfolding owns perform branch agree nonempty withStack
+  pub pop-none : (t f : ℕ) → top (m .stack) ≡ none → done n (Pop t f) m ≡ go (moveTo n f) m
+  unfolding done perform branch agree nonempty withStack
   pop-none t f e = rw (popped-none (m .stack) e, e)
 
-  pub pop-some : (t f x : ℕ) → top (m .stack) ≡ some x → owns n (Pop t f) m ≡ go (moveTo n t) (withStack (popped (m .stack)) m)
-  unfolding owns perform branch agree nonempty
+  pub pop-some : (t f x : ℕ) → top (m .stack) ≡ some x → done n (Pop t f) m ≡ go (moveTo n t) (withStack (popped (m .stack)) m)
+  unfolding done perform branch agree nonempty
   pop-some t f x e = rw e
 
-  pub compare-none : (y t f : ℕ) → top (m .stack) ≡ none → owns n (Compare y t f) m ≡ go (moveTo n f) m
-  unfolding owns perform branch agree equals
+  pub compare-none : (y t f : ℕ) → top (m .stack) ≡ none → done n (Compare y t f) m ≡ go (moveTo n f) m
+  unfolding done perform branch agree equals
   compare-none y t f e = rw e
 
-  pub compare-yes : (y t f x : ℕ) → top (m .stack) ≡ some x → eqb x y ≡ true → owns n (Compare y t f) m ≡ go (moveTo n t) m
-  unfolding owns perform branch agree equals
+  pub compare-yes : (y t f x : ℕ) → top (m .stack) ≡ some x → eqb x y ≡ true → done n (Compare y t f) m ≡ go (moveTo n t) m
+  unfolding done perform branch agree equals
   compare-yes y t f x e q = rw (e, q)
 
-  pub compare-no : (y t f x : ℕ) → top (m .stack) ≡ some x → eqb x y ≡ false → owns n (Compare y t f) m ≡ go (moveTo n f) m
-  unfolding owns perform branch agree equals
+  pub compare-no : (y t f x : ℕ) → top (m .stack) ≡ some x → eqb x y ≡ false → done n (Compare y t f) m ≡ go (moveTo n f) m
+  unfolding done perform branch agree equals
   compare-no y t f x e q = rw (e, q)
 
-  pub return-none : top (m .stack) ≡ none → owns n Return m ≡ go (moveTo n 0) m
-  unfolding owns leaving moveTo names
+  pub return-none : top (m .stack) ≡ none → done n Return m ≡ go (moveTo n 0) m
+  unfolding done leaving moveTo names
   return-none e = rw e
 
-  pub return-out : (t : ℕ) → top (m .stack) ≡ some t → names n t ≡ false → owns n Return m ≡ go (moveTo n 0) m
-  unfolding owns leaving moveTo names
+  pub return-out : (t : ℕ) → top (m .stack) ≡ some t → names n t ≡ false → done n Return m ≡ go (moveTo n 0) m
+  unfolding done leaving moveTo names
   return-out t e h = rw e (ap (λ (b : Bool). cond b (go t (withStack (popped (m .stack)) m)) (go 0 m)) h)
 
-  pub return-in : (t : ℕ) → top (m .stack) ≡ some t → names n t ≡ true → owns n Return m ≡ go (moveTo n t) (withStack (popped (m .stack)) m)
-  unfolding owns leaving moveTo
+  pub return-in : (t : ℕ) → top (m .stack) ≡ some t → names n t ≡ true → done n Return m ≡ go (moveTo n t) (withStack (popped (m .stack)) m)
+  unfolding done leaving moveTo
   return-in t e h = rw (e, h)
 
 -- The same on the entries and the depth, in place.
 module _ (n d : ℕ) (es : List ℕ) where
+  pub turns-leap : (k : ℕ) → d ≤ 96 → Turns n (Leap k) es d (To k d) es
+  unfolding done
+  turns-leap k h = record { entries = refl; depth = h; goes = λ r u l g. refl }
+
   pub turns-full : (y k : ℕ) → 96 ≤ d → Turns n (Push y k) es d Full es
   turns-full y k h = (refl, λ r u l g. push-full n (mem (stack es d) r u l g) y k h)
 

@@ -3,7 +3,6 @@ pub mod States
 pub mod Places
 pub mod Deeds
 pub mod Asking
-pub mod Moving
 pub mod Turning
 pub mod Stopping
 pub mod Checking

@@ -1,7 +1,5 @@
 -- The one number that a step needs besides its record's own fields: where a goto or a bracket leads.
-use mathlib.Core.Path.{_≡_}
-use Prim.Native.Nat.{_<_}
-use Rattle.rules.specs.Words.{ℕ, suc, cond, List, length, getD, eqb}
+use Rattle.rules.specs.Words.{ℕ, suc, cond, List, eqb}
 use Rattle.rules.specs.Numbers.{given, past}
 use Rattle.rules.specs.Instruction.{conditional, loop, Op, ops}
 use Rattle.rules.specs.Labels.{target, target2}
@@ -25,7 +23,3 @@ placeFor L i k x y =
 
 unfoldable pub placeAt : List ℕ → ℕ → ℕ
 placeAt s i = placeFor (ops s) i (recAt s i .kind) (recAt s i .x) (recAt s i .y)
-
--- The places of the first records, worked out.
-abbrev pub Places : List ℕ → List ℕ → Type 0
-Places s ps = (k : ℕ) → k < length ps → getD ps k 0 ≡ placeAt s (suc k)

@@ -1,9 +1,6 @@
--- Soundness of a state, place by place, and the state that a run starts from.
+-- Soundness of a counter stack, place by place.
 use Rattle.rules.specs.Words.{ℕ, Bool, cond, _&&_, eqb, leb, ltb}
 use Rattle.rules.specs.declared.Stack.{Stack}
-use Rattle.rules.specs.declared.State.{State}
-use Rattle.rules.specs.Numbers.{moveTo}
-use Rattle.rules.specs.Stack.{fresh}
 use Rattle.rules.specs.Answers.{entriesSound}
 
 -- Entry v at place i, from 0, of a stack of depth d.
@@ -12,7 +9,3 @@ entryFine d i v = cond (ltb i d) (leb v 9999) (eqb v 0)
 
 unfoldable pub stackSound : Stack → Bool
 stackSound s = leb (s .depth) 96 && entriesSound (s .depth) (s .entries)
-
--- The start over n records.
-unfoldable pub startState : ℕ → State
-startState n = record { at = moveTo n 1; stack = fresh }

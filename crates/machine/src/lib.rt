@@ -12,7 +12,6 @@ mod turn;
 use check::turned_away;
 use check::with_replies;
 use check::with_state;
-use place::places;
 use records::check::check_base;
 use rules::Ran;
 use rules::State;
@@ -20,7 +19,7 @@ use rules::Verdict;
 use run::drive;
 use shape::check_routine;
 use state::no_state;
-use state::start;
+use step::single;
 ghost use Rattle.rules.specs.Answers.{Called, runRoutine, runBase, stepRoutine, stepBase};
 
 // Runs a routine from its start: checks 1 to 7, then 9.
@@ -30,10 +29,7 @@ pub fn run_routine(routine: &[u8], replies: &[u8], log: &mut [u8], budget: u64) 
     let verdict = with_replies(check_routine(routine), replies);
     match verdict {
         Verdict::Refused(r) => turned_away(r, no_state()),
-        Verdict::Accepted(n) => {
-            let found = places(routine, n);
-            drive(routine, &found[..n], replies, log, start(n), budget)
-        }
+        Verdict::Accepted(_) => drive(routine, replies, log, budget),
     }
 }
 
@@ -44,10 +40,7 @@ pub fn run_base(base: &[u8], replies: &[u8], log: &mut [u8], budget: u64) -> Ran
     let verdict = with_replies(check_base(base), replies);
     match verdict {
         Verdict::Refused(r) => turned_away(r, no_state()),
-        Verdict::Accepted(n) => {
-            let none = [0usize; 1];
-            drive(base, &none[..0], replies, log, start(n), budget)
-        }
+        Verdict::Accepted(_) => drive(base, replies, log, budget),
     }
 }
 
@@ -58,10 +51,7 @@ pub fn step_routine(routine: &[u8], replies: &[u8], log: &mut [u8], state: State
     let verdict = with_state(with_replies(check_routine(routine), replies), state);
     match verdict {
         Verdict::Refused(r) => turned_away(r, state),
-        Verdict::Accepted(_) => {
-            let none = [0usize; 1];
-            drive(routine, &none[..0], replies, log, state, 1)
-        }
+        Verdict::Accepted(_) => single(routine, replies, log, state),
     }
 }
 
@@ -72,9 +62,6 @@ pub fn step_base(base: &[u8], replies: &[u8], log: &mut [u8], state: State) -> R
     let verdict = with_state(with_replies(check_base(base), replies), state);
     match verdict {
         Verdict::Refused(r) => turned_away(r, state),
-        Verdict::Accepted(_) => {
-            let none = [0usize; 1];
-            drive(base, &none[..0], replies, log, state, 1)
-        }
+        Verdict::Accepted(_) => single(base, replies, log, state),
     }
 }

@@ -4,17 +4,24 @@ ghost use Prim.Native.Nat.{_*_, _≤_};
 ghost use lib.ListN.{length};
 ghost use Rattle.machine.specs.Asking.{Spoke};
 
-// The reply, or why the step is not taken.
+// Where the reply leads, or why the step is not taken.
 pub enum Said {
-    Yes,
-    No,
+    To(u32),
     Stops(Status),
 }
 
 // Does the outside action x, or says why not and writes nothing. A log with under two bytes left is full.
-pub(crate) fn outside(replies: &[u8], log: &mut [u8], used: usize, logged: usize, x: u16) -> Said
+pub(crate) fn outside(
+    replies: &[u8],
+    log: &mut [u8],
+    used: usize,
+    logged: usize,
+    x: u16,
+    yes: u32,
+    no: u32,
+) -> Said
     requires { ⌜ 2 * logged ≤ length (now log) ⌝ }
-    ensures { λ r. ⌜ Spoke (now (replies .entry)) used (now (log .entry)) logged x r (now (log .exit)) ⌝ }
+    ensures { λ r. ⌜ Spoke (now (replies .entry)) used (now (log .entry)) logged x «yes» «no» r (now (log .exit)) ⌝ }
 {
     if replies.len() <= used {
         return Said::Stops(Status::NoReply);
@@ -26,7 +33,7 @@ pub(crate) fn outside(replies: &[u8], log: &mut [u8], used: usize, logged: usize
     log[at] = (x % 256) as u8;
     log[at + 1] = (x / 256 % 256) as u8;
     if replies[used] == 1 {
-        return Said::Yes;
+        return Said::To(yes);
     }
-    Said::No
+    Said::To(no)
 }

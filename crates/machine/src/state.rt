@@ -4,7 +4,7 @@ use rules::Stack;
 use rules::State;
 ghost use mathlib.Core.Path.{_≡_};
 ghost use Rattle.rules.specs.Answers.{badReply, sound, noState};
-ghost use Rattle.machine.specs.States.{entryFine, stackSound, startState};
+ghost use Rattle.machine.specs.States.{entryFine, stackSound};
 
 // Entries in use are 0..9,999 and unused ones zero: entry v at place i, from 0, of a stack of depth d.
 fn entry_fine(d: usize, i: usize, v: u16) -> bool
@@ -55,17 +55,6 @@ pub(crate) fn bad_reply(replies: &[u8]) -> usize
         i += 1;
     }
     0
-}
-
-// The start of a run over n records: position 1, or 0 if n = 0, and a fresh stack.
-pub(crate) fn start(n: usize) -> State
-    ensures { λ r. ⌜ r ≡ startState n ⌝ }
-{
-    let stack = Counters::fresh();
-    if n == 0 {
-        return State { at: 0, stack };
-    }
-    State { at: 1, stack }
 }
 
 // What a refused run hands back: a fresh state that has ended.

@@ -1,20 +1,21 @@
-// The counter stack's own deeds in place, as a run does them with the entries and the depth in locals.
-use crate::deed::Own;
+// What a deed does to the counter stack, in place, as a run does it with the entries and the depth in locals.
+use crate::deed::Deed;
 use crate::place::names;
 ghost use mathlib.Core.Path.{_≡_};
 ghost use Prim.Native.Nat.{_≤_};
 ghost use lib.ListN.{length};
-ghost use Rattle.machine.specs.declared.deed.Own.the-variants.{Push, Pop, Compare, Return};
+ghost use Rattle.machine.specs.declared.deed.Deed.the-variants.{Push, Pop, Compare, Return};
 ghost use Rattle.machine.specs.Turning.{Turns};
 
-// To a place, with the depth then; or the stack is full.
+// To a place, with the depth then; or the stack is full; or the action is an outside one, with the places on yes and on no.
 pub enum Turned {
-    To(usize, usize),
+    To(u32, usize),
     Full,
+    Asks(u16, u32, u32),
 }
 
 // Push replies yes.
-fn push(n: usize, entries: &mut [u16; 96], depth: usize, y: u16, to: usize) -> Turned
+fn push(n: usize, entries: &mut [u16; 96], depth: usize, y: u16, to: u32) -> Turned
     ensures { λ r. ⌜ Turns n (Push y to) (now (entries .entry)) depth r (now (entries .exit)) ⌝ }
 {
     if 96 <= depth {
@@ -25,7 +26,7 @@ fn push(n: usize, entries: &mut [u16; 96], depth: usize, y: u16, to: usize) -> T
 }
 
 // Pop replies no on empty, else yes.
-fn pop(n: usize, entries: &mut [u16; 96], depth: usize, yes: usize, no: usize) -> Turned
+fn pop(n: usize, entries: &mut [u16; 96], depth: usize, yes: u32, no: u32) -> Turned
     requires { ⌜ (length (now entries) ≡ 96) × (depth ≤ 96) ⌝ }
     ensures { λ r. ⌜ Turns n (Pop «yes» «no») (now (entries .entry)) depth r (now (entries .exit)) ⌝ }
 {
@@ -38,7 +39,7 @@ fn pop(n: usize, entries: &mut [u16; 96], depth: usize, yes: usize, no: usize) -
 }
 
 // Compare replies yes exactly if not empty and the top equals y, and keeps it.
-fn compare(n: usize, entries: &mut [u16; 96], depth: usize, y: u16, yes: usize, no: usize) -> Turned
+fn compare(n: usize, entries: &mut [u16; 96], depth: usize, y: u16, yes: u32, no: u32) -> Turned
     requires { ⌜ (length (now entries) ≡ 96) × (depth ≤ 96) ⌝ }
     ensures { λ r. ⌜ Turns n (Compare y «yes» «no») (now (entries .entry)) depth r (now (entries .exit)) ⌝ }
 {
@@ -52,10 +53,10 @@ fn compare(n: usize, entries: &mut [u16; 96], depth: usize, y: u16, yes: usize, 
     Turned::To(no, depth)
 }
 
-pub(crate) fn wide(v: u16) -> usize
+pub(crate) fn wide(v: u16) -> u32
     ensures { λ r. ⌜ r ≡ v ⌝ }
 {
-    v as usize
+    v as u32
 }
 
 // ##R: if the stack is not empty and its top t is in 1..n, pop and go to t; otherwise end, stack kept.
@@ -68,21 +69,23 @@ fn go_back(n: usize, entries: &mut [u16; 96], depth: usize) -> Turned
     }
     let top = depth - 1;
     let t = wide(entries[top]);
-    if !names(n, t) {
+    if !names(n, t as usize) {
         return Turned::To(0, depth);
     }
     entries[top] = 0;
     Turned::To(t, top)
 }
 
-pub(crate) fn turn(n: usize, own: Own, entries: &mut [u16; 96], depth: usize) -> Turned
+pub(crate) fn turn(n: usize, deed: Deed, entries: &mut [u16; 96], depth: usize) -> Turned
     requires { ⌜ (length (now entries) ≡ 96) × (depth ≤ 96) ⌝ }
-    ensures { λ r. ⌜ Turns n own (now (entries .entry)) depth r (now (entries .exit)) ⌝ }
+    ensures { λ r. ⌜ Turns n deed (now (entries .entry)) depth r (now (entries .exit)) ⌝ }
 {
-    match own {
-        Own::Push(y, to) => push(n, entries, depth, y, to),
-        Own::Pop(yes, no) => pop(n, entries, depth, yes, no),
-        Own::Compare(y, yes, no) => compare(n, entries, depth, y, yes, no),
-        Own::Return => go_back(n, entries, depth),
+    match deed {
+        Deed::Leap(k) => Turned::To(k, depth),
+        Deed::Ask(x, yes, no) => Turned::Asks(x, yes, no),
+        Deed::Push(y, to) => push(n, entries, depth, y, to),
+        Deed::Pop(yes, no) => pop(n, entries, depth, yes, no),
+        Deed::Compare(y, yes, no) => compare(n, entries, depth, y, yes, no),
+        Deed::Return => go_back(n, entries, depth),
     }
 }

@@ -3,17 +3,16 @@ use borrow.Author.Needs.{needs}
 use Rattle.rules.specs.declared.Notation.the-variants.{Base}
 use Rattle.rules.specs.Checks.{most, recordChecks}
 use Rattle.rules.specs.Answers.{runBase, checkRecords}
-use Rattle.machine.proofs.Checking.{start-in, run-accepted, run-refused, run-called, short}
+use Rattle.machine.proofs.Checking.{run-accepted, run-refused, run-called, short}
 use Rattle.machine.proofs.run_base.Statement.{statement}
 use Rattle.machine.proofs.run_base.Tie as tie
 
 drive-requires : tie.Need-drive-requires
 unfolding most checkRecords
 drive-requires c κs =
-    let s = c .before .before .before .before .before .before .before .before .before .before .before .args .base .now in
-    let q = run-accepted (recordChecks Base s) s _ _ _ (c .before .before .before .before .before .before .before .check-base .ensures) (c .before .before .before .before .before .before .with-replies .ensures) _ (c .before .before .before .before .verdict2 .given .1) in
-    let f = start-in s _ _ (q .1) (c .start .ensures) in
-    ((f .0, short Base s _ (q .0), f .1), λ k h. absurd (omega arith))
+    let s = c .before .before .before .before .before .before .before .before .args .base .now in
+    let q = run-accepted (recordChecks Base s) s _ _ _ (c .before .before .before .before .check-base .ensures) (c .before .before .before .with-replies .ensures) _ (c .before .enum-told .given .1) in
+    short Base s _ (q .0)
 
 returns : tie.Need-returns
 unfolding runBase checkRecords
@@ -24,8 +23,8 @@ returns c =
 returns-2 : tie.Need-returns-2
 unfolding runBase checkRecords
 returns-2 c =
-    let s = c .before .before .before .before .before .before .before .before .before .before .before .before .before .before .args .base .now in
-    run-called (recordChecks Base s) s _ _ _ (c .before .before .before .before .before .before .before .before .before .before .check-base .ensures) (c .before .before .before .before .before .before .before .before .before .with-replies .ensures) _ _ _ (c .before .before .before .before .before .before .before .verdict2 .given .1) _ (c .before .before .before .start .ensures) _ _ (c .before .before .drive .ensures)
+    let s = c .before .before .before .before .before .before .before .before .before .before .before .args .base .now in
+    run-called (recordChecks Base s) s _ _ _ (c .before .before .before .before .before .before .before .check-base .ensures) (c .before .before .before .before .before .before .with-replies .ensures) _ _ _ (c .before .before .before .before .enum-told .given .1) _ _ (c .before .before .drive .ensures)
 
 pub run-base-spec : {M : Type 1} → statement M
 run-base-spec =
@@ -37,9 +36,6 @@ run-base-spec =
     (λ c κs. search needs)
     (λ c κs. search needs)
     (λ c. search needs)
-    (λ c. search needs)
-    (λ c. search needs)
-    (λ c κs. search needs)
     drive-requires
     returns
     (λ c. search needs)

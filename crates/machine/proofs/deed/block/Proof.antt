@@ -10,8 +10,9 @@ block-spec =
     (tie.spec
     (λ c. search needs)
     (λ c κs. search needs)
-    (λ c L h. means-block-plus L _ _ _ _ _ _ h (c .before .if1 .taken) (c .ask .ensures))
+    (λ c L h. means-block-plus _ L _ _ _ _ _ _ h (c .before .if1 .taken) (c .ask .ensures))
     (λ c. search needs)
     (λ c κs. search needs)
-    (λ c L h. means-block-minus L _ _ _ _ _ _ h (c .before .if2 .taken) (c .ask2 .ensures))
-    (λ c L h. means-parts L _ _ _ _ _ h (omega arith) (omega arith)))
+    (λ c L h. means-block-minus _ L _ _ _ _ _ _ h (c .before .if2 .taken) (c .ask2 .ensures))
+    (λ c κs. search needs)
+    (λ c L h. means-parts _ L _ _ _ _ _ _ h (c .leap .ensures) (omega arith) (omega arith)))

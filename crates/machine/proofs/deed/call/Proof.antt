@@ -10,5 +10,6 @@ call-spec =
     (tie.spec
     (λ c. search needs)
     (λ c. search needs)
-    (λ c L. means-call L _ _ _ _ (c .if1 .taken))
-    (λ c L. means-return L _ _ _ _ (omega arith)))
+    (λ c κs. search needs)
+    (λ c L. means-call _ L _ _ _ _ (c .before .if1 .taken) (c .within .ensures))
+    (λ c L. means-return _ L _ _ _ _ (omega arith)))

@@ -6,8 +6,8 @@ use Rattle.machine.proofs.deed.deed_at.Tie as tie
 
 returns : tie.Need-returns
 returns c =
-    let b = c .before .before .before .before .before .before .before .before .before .before in
-    steps-read (b .args .s .now) (b .args .i) (b .pre .0 .0) (b .pre .0 .1) _ _ _ (c .before .before .before .before .number .ensures) (c .before .number2 .ensures) (c .deed-of .ensures)
+    let b = c .before .before .before .before .before .before .before .before .before in
+    steps-read (b .args .s .now) (b .args .i) (b .pre .0) (b .pre .1) _ _ _ (c .before .before .before .before .number .ensures) (c .before .number2 .ensures) (c .deed-of .ensures)
 
 pub deed-at-spec : {M : Type 1} → statement M
 deed-at-spec =

@@ -8,6 +8,8 @@ pub jump-spec : {M : Type 1} → statement M
 jump-spec =
     tie.close
     (tie.spec
-    (λ c L. means-jump L _ _ _ _ (c .if1 .taken))
+    (λ c κs. search needs)
+    (λ c L. means-jump _ L _ _ _ _ _ (c .before .if1 .taken) (c .leap .ensures))
     (λ c. search needs)
-    (λ c L. means-label L _ _ _ _ (omega arith)))
+    (λ c κs. search needs)
+    (λ c L. means-label _ L _ _ _ _ _ (omega arith) (c .leap2 .ensures)))

@@ -10,8 +10,9 @@ round-spec =
     (tie.spec
     (λ c. search needs)
     (λ c κs. search needs)
-    (λ c L h. means-loop-plus L _ _ _ _ _ _ h (c .before .if1 .taken) (c .ask .ensures))
+    (λ c L h. means-loop-plus _ L _ _ _ _ _ _ h (c .before .if1 .taken) (c .ask .ensures))
     (λ c. search needs)
     (λ c κs. search needs)
-    (λ c L h. means-loop-minus L _ _ _ _ _ _ h (c .before .if2 .taken) (c .ask2 .ensures))
-    (λ c L h. means-loop-end L _ _ _ _ _ h (omega arith)))
+    (λ c L h. means-loop-minus _ L _ _ _ _ _ _ h (c .before .if2 .taken) (c .ask2 .ensures))
+    (λ c κs. search needs)
+    (λ c L h. means-loop-end _ L _ _ _ _ _ _ h (c .leap .ensures) (omega arith)))

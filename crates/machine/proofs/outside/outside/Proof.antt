@@ -2,8 +2,7 @@ use mathlib.Core.Path.{refl}
 use native.Mathlib.Omega.{arith}
 use lib.ListN.{length-set}
 use borrow.Author.Needs.{needs}
-use borrow.Author.Tests.{eq-eqb, ne-eqb}
-use Rattle.machine.proofs.Asking.{no-reply, log-full, heard}
+use Rattle.machine.proofs.Asking.{no-reply, log-full, heard-yes, heard-no}
 use Rattle.machine.proofs.outside.outside.Statement.{statement}
 use Rattle.machine.proofs.outside.outside.Tie as tie
 
@@ -11,10 +10,10 @@ pub outside-spec : {M : Type 1} → statement M
 outside-spec =
     tie.close
     (tie.spec
-    (λ c. (refl, no-reply _ _ _ _ _ (c .if1 .taken)))
+    (λ c. (refl, no-reply _ _ _ _ _ _ _ (c .if1 .taken)))
     (λ c. search needs)
     (λ c. search needs)
-    (λ c. (refl, log-full _ _ _ _ _ (c .before .if1 .left) (c .if2 .taken)))
+    (λ c. (refl, log-full _ _ _ _ _ _ _ (c .before .if1 .left) (c .if2 .taken)))
     (λ c. search needs)
     (λ c. search needs)
     (λ c. search needs)
@@ -22,6 +21,6 @@ outside-spec =
     (λ c. simp length-set (omega arith))
     (λ c. search needs)
     (λ c. search needs)
-    (λ c. heard _ _ _ _ _ (c .before .before .before .if1 .left) (c .before .before .if2 .left) _ (eq-eqb _ _ (c .if3 .taken)))
+    (λ c. heard-yes _ _ _ _ _ _ _ (c .before .before .before .if1 .left) (c .before .before .if2 .left) (c .if3 .taken))
     (λ c. search needs)
-    (λ c. heard _ _ _ _ _ (c .before .before .before .if1 .left) (c .before .before .if2 .left) _ (ne-eqb _ _ (c .if3 .left))))
+    (λ c. heard-no _ _ _ _ _ _ _ (c .before .before .before .if1 .left) (c .before .before .if2 .left) (c .if3 .left)))

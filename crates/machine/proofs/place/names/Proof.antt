@@ -1,5 +1,5 @@
 use mathlib.Core.Path.{_≡_, sym, _∙_}
-use Rattle.machine.proofs.Running.{names-zero, names-leb}
+use Rattle.machine.proofs.Moves.{names-zero, names-leb}
 use Rattle.machine.proofs.place.names.Statement.{statement}
 use Rattle.machine.proofs.place.names.Tie as tie
 

@@ -14,7 +14,7 @@ returns-2 c = rw (c .before .enum-told2 .given .1) (c .arrive2 .ensures)
 
 returns-3 : tie.Need-returns-3
 unfolding answered
-returns-3 c = rw (c .before .enum-told3 .given .1) (c .stop .ensures)
+returns-3 c = rw (c .before .enum-told3 .given .1) (c .stay .ensures)
 
 pub answer-spec : {M : Type 1} → statement M
 answer-spec =

@@ -14,6 +14,7 @@ go-back-spec =
     (λ c. search needs)
     (λ c. search needs)
     (λ c κs. search needs)
+    (λ c. search needs)
     (λ c κs. search needs)
     (λ c. turns-return-out _ _ _ (c .before .before .before .before .before .pre .0) (c .before .before .before .before .if1 .left) (c .before .before .before .before .before .pre .1) _ (c .before .before .wide .ensures) (sym (c .before .names .ensures) ∙ not-true _ (c .if2 .taken)))
     (λ c. search needs)
