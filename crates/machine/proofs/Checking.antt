@@ -6,25 +6,24 @@ use mathlib.Core.Bool.{Bool, true, false, not, _&&_}
 use mathlib.Core.Option.{Option, none, some}
 use mathlib.Core.List.{List, [], _∷_, _++_, append-assoc}
 use lib.ListN.{length}
-use lib.Dec.{leb, ltb}
-use borrow.Author.Tests.{ltb-false, leb-true}
+use lib.Dec.{leb}
+use borrow.Author.Tests.{leb-true}
 use Rattle.rules.specs.declared.Refusal.{Refusal}
-use Rattle.rules.specs.declared.Refusal.the-variants.{Long, Reply}
+use Rattle.rules.specs.declared.Refusal.the-variants.{Reply}
 use Rattle.rules.specs.declared.Refusal.the-variants as refusal
 use Rattle.rules.specs.declared.Verdict.{Verdict}
 use Rattle.rules.specs.declared.Verdict.the-variants.{Accepted, Refused}
-use Rattle.rules.specs.declared.Notation.{Notation}
-use Rattle.rules.specs.declared.Notation.the-variants.{Routine}
+use Rattle.rules.specs.declared.Notation.the-variants.{Base}
 use Rattle.rules.specs.declared.Ran.{Ran}
 use Rattle.rules.specs.declared.State.{State}
 use Rattle.rules.specs.Record.{count}
 use Rattle.rules.specs.Instruction.{ops}
 use Rattle.rules.specs.Refusals.{when, whenAt, orElse, first, verdictOf, verdict}
-use Rattle.rules.specs.Checks.{most, long, ragged, faultFrom, recordChecks}
+use Rattle.rules.specs.Checks.{most}
 use Rattle.rules.specs.Run.{run, runs}
-use Rattle.rules.specs.Answers.{Called, routineChecks, badReply, sound, unless, turnedAway, noState, running, ran, stepping, memAt, entriesSound}
-use Rattle.rules.proofs.Refusals.{first-append}
-use Rattle.machine.specs.Checking.{withReplies, withState}
+use Rattle.rules.specs.Answers.{Called, checkRecords, checkRoutine, badReply, sound, unless, turnedAway, noState, running, ran, stepping, memAt, entriesSound}
+use Rattle.rules.proofs.Refusals.{first-append, when-none, held, admitted}
+use Rattle.machine.specs.Checking.{withReplies, withState, Counted}
 
 first-one : (c : Option Refusal) → first (c ∷ []) ≡ c
 unfolding first orElse
@@ -36,9 +35,9 @@ unfolding whenAt
 when-at k zero e h = absurd (h e)
 when-at k (suc j) e h = rw e
 
-pub when-none : (k j : ℕ) → k ≡ j → k ≡ 0 → whenAt Reply j ≡ none
+pub when-zero : (k j : ℕ) → k ≡ j → k ≡ 0 → whenAt Reply j ≡ none
 unfolding whenAt
-when-none k j e h = rw (← e, h)
+when-zero k j e h = rw (← e, h)
 
 -- One check more.
 module _ (cs : List (Option Refusal)) (n : ℕ) where
@@ -125,29 +124,21 @@ module _ (checks : List (Option Refusal)) (s replies : List ℕ) where
 
 -- ## What is known of an accepted call
 
-clear-left : (c d : Option Refusal) → orElse c d ≡ none → c ≡ none
-unfolding orElse
-clear-left none d e = refl
-clear-left (some r) d e = absurd (let z : _≡_ {A = ℕ} 0 1 = cc in omega arith)
+pub counted-routine : (s : List ℕ) → Counted (checkRoutine s) s
+unfolding most
+counted-routine s n e = let h = admitted s n e in (sym (h .counted), omega (arith, h .fines .few))
 
-clear-right : (c d : Option Refusal) → orElse c d ≡ none → d ≡ none
-unfolding orElse
-clear-right none d e = e
-clear-right (some r) d e = absurd (let z : _≡_ {A = ℕ} 0 1 = cc in omega arith)
+pub counted-base : (s : List ℕ) → Counted (checkRecords Base s) s
+unfolding most
+counted-base s n e = let h = held Base s n e in (sym (h .counted), h .fines .few)
 
-not-when : (b : Bool) (r : Refusal) → when b r ≡ none → b ≡ false
-unfolding when
-not-when true r e = absurd (let z : _≡_ {A = ℕ} 0 1 = cc in omega arith)
-not-when false r e = refl
+replies-accepted : (v : Verdict) (replies : List ℕ) (k : ℕ) → withReplies v replies ≡ Accepted k → v ≡ Accepted k
+unfolding withReplies
+replies-accepted (Accepted n) replies k e = ap Accepted (sym (accepted _ n k e .1))
+replies-accepted (Refused r) replies k e = absurd (let z : _≡_ {A = ℕ} 0 1 = cc in omega arith)
 
--- The file has no more records than allowed.
-pub short : (nt : Notation) (s : List ℕ) (more : List (Option Refusal)) → first (recordChecks nt s ++ more) ≡ none → count s ≤ most nt
-unfolding recordChecks first long
-short nt s more e = ltb-false (most nt) (count s) (not-when (ltb (most nt) (count s)) Long (clear-left _ _ (clear-right _ _ e)))
-
-pub short-routine : (s : List ℕ) (more : List (Option Refusal)) → first (routineChecks s ++ more) ≡ none → count s ≤ 512
-unfolding routineChecks most
-short-routine s more e = short Routine s _ (sym (ap first (append-assoc (recordChecks Routine s) _ more)) ∙ e)
+pub run-short : (v w : Verdict) (s replies : List ℕ) → Counted v s → w ≡ withReplies v replies → (k : ℕ) → w ≡ Accepted k → count s ≤ 4096
+run-short v w s replies h q k e = h k (replies-accepted v replies k (sym q ∙ e)) .1
 
 and-two : (a b c : Bool) → (a && b) && c ≡ true → (a ≡ true) × (b ≡ true)
 and-two true true c e = (refl, refl)
@@ -159,10 +150,17 @@ not-not true e = refl
 not-not false e = absurd (let z : _≡_ {A = ℕ} 0 1 = cc in omega arith)
 
 -- The position is in 0..n, and the depth at most 96.
-pub sound-in : (checks : List (Option Refusal)) (s replies : List ℕ) (m : State) → first (stepChecks checks s replies m) ≡ none
-    → (m .at ≤ count s) × (m .stack .depth ≤ 96)
-unfolding sound first
-sound-in checks s replies m e =
-    let last = clear-right _ _ (clear-right _ _ (sym (first-append checks _) ∙ e)) in
-    let h = and-two (leb (m .at) (count s)) (leb (m .stack .depth) 96) (entriesSound (m .stack .depth) (m .stack .entries)) (not-not (sound (count s) m) (not-when _ refusal.State (sym (first-one _) ∙ last))) in
-    (leb-true (m .at) (count s) (h .0), leb-true (m .stack .depth) 96 (h .1))
+state-accepted : (v : Verdict) (m : State) (k : ℕ) → withState v m ≡ Accepted k → (v ≡ Accepted k) × (m .at ≤ k) × (m .stack .depth ≤ 96)
+unfolding withState sound
+state-accepted (Accepted n) m k e =
+    let a = accepted _ n k e in
+    let h = and-two (leb (m .at) n) (leb (m .stack .depth) 96) (entriesSound (m .stack .depth) (m .stack .entries)) (not-not (sound n m) (when-none _ refusal.State (a .0))) in
+    (ap Accepted (sym (a .1)), omega (arith, a .1, leb-true (m .at) n (h .0)), leb-true (m .stack .depth) 96 (h .1))
+state-accepted (Refused r) m k e = absurd (let z : _≡_ {A = ℕ} 0 1 = cc in omega arith)
+
+pub step-sound : (v w z : Verdict) (s replies : List ℕ) (m : State) → Counted v s → w ≡ withReplies v replies → z ≡ withState w m
+    → (k : ℕ) → z ≡ Accepted k → (m .at ≤ count s) × (count s ≤ 4096) × (m .stack .depth ≤ 96)
+step-sound v w z s replies m h q o k e =
+    let a = state-accepted w m k (sym o ∙ e) in
+    let c = h k (replies-accepted v replies k (sym q ∙ a .0)) in
+    (omega (arith, a .1, c .0), c .1, a .2)

@@ -1,4 +1,7 @@
 // A single step, with the counter stack by value: each method hands back the whole stack.
+use crate::check::turned_away;
+use crate::check::with_replies;
+use crate::check::with_state;
 use crate::deed::Deed;
 use crate::deed::deed_at;
 use crate::outside::Said;
@@ -13,13 +16,19 @@ use rules::Ran;
 use rules::Stack;
 use rules::State;
 use rules::Status;
+use rules::Verdict;
 ghost use mathlib.Core.Path.{_≡_};
+ghost use mathlib.Core.Option.{Option};
+ghost use mathlib.Core.List.{List};
 ghost use Prim.Native.Nat.{_≤_};
+ghost use Rattle.rules.specs.declared.Refusal.{Refusal};
 ghost use Rattle.rules.specs.Record.{count};
 ghost use Rattle.rules.specs.Instruction.{ops};
 ghost use Rattle.rules.specs.Run.{run};
-ghost use Rattle.rules.specs.Answers.{Called, ran, memAt};
+ghost use Rattle.rules.specs.Refusals.{verdict};
+ghost use Rattle.rules.specs.Answers.{Called, ran, memAt, stepping};
 ghost use Rattle.machine.specs.declared.deed.Deed.the-variants.{Ask, Return};
+ghost use Rattle.machine.specs.Checking.{Counted};
 ghost use Rattle.machine.specs.Stepping.{arrived, answered, before, Owned, Does};
 
 // The step went to the place k, after so many outside actions. Position 0 means ended; at any other the budget of 1 is spent.
@@ -102,7 +111,7 @@ fn do_deed(n: usize, deed: Deed, replies: &[u8], log: &mut [u8], state: State) -
 }
 
 // One step of the file from the state. Position 0 means ended.
-pub(crate) fn single(s: &[u8], replies: &[u8], log: &mut [u8], state: State) -> Ran
+fn single(s: &[u8], replies: &[u8], log: &mut [u8], state: State) -> Ran
     requires { ⌜ (state .at ≤ count (now s)) × (count (now s) ≤ 4096) × (state .stack .depth ≤ 96) ⌝ }
     ensures { λ r. ⌜ Called (ran (run (ops (now (s .entry))) 1 (state .at) (memAt state (now (replies .entry)) (now (log .entry))))) r (now (log .exit)) ⌝ }
 {
@@ -111,4 +120,16 @@ pub(crate) fn single(s: &[u8], replies: &[u8], log: &mut [u8], state: State) -> 
         return stay(Status::Ended, 0, state.stack);
     }
     do_deed(s.len() / 8, deed_at(s, at), replies, log, state)
+}
+
+// A step of a file, given what was found of it: refusals 9 and 10 come after the file's own.
+pub(crate) fn step(found: Verdict, s: &[u8], replies: &[u8], log: &mut [u8], state: State) -> Ran
+    requires { ⌜ Counted found (now s) ⌝ }
+    ensures { λ r. ⌜ ((checks : List (Option Refusal)) → found ≡ verdict checks (count (now (s .entry))) → Called (stepping checks (now (s .entry)) (now (replies .entry)) (now (log .entry)) state) r (now (log .exit))) ⌝ }
+{
+    let verdict = with_state(with_replies(found, replies), state);
+    match verdict {
+        Verdict::Refused(r) => turned_away(r, state),
+        Verdict::Accepted(_) => single(s, replies, log, state),
+    }
 }

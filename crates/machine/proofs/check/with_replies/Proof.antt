@@ -3,7 +3,7 @@ use borrow.Author.Needs.{needs}
 use Rattle.rules.specs.Refusals.{whenAt, verdictOf}
 use Rattle.rules.specs.Answers.{badReply}
 use Rattle.machine.specs.Checking.{withReplies}
-use Rattle.machine.proofs.Checking.{when-at, when-none}
+use Rattle.machine.proofs.Checking.{when-at, when-zero}
 use Rattle.machine.proofs.check.with_replies.Statement.{statement}
 use Rattle.machine.proofs.check.with_replies.Tie as tie
 
@@ -17,7 +17,7 @@ returns-2 c = rw (c .before .verdict .given .1)
 
 returns-3 : tie.Need-returns-3
 unfolding withReplies verdictOf
-returns-3 c = rw (c .before .before .before .verdict2 .given .1, when-none _ _ (c .before .bad-reply .ensures) (c .if1 .left))
+returns-3 c = rw (c .before .before .before .verdict2 .given .1, when-zero _ _ (c .before .bad-reply .ensures) (c .if1 .left))
 
 pub with-replies-spec : {M : Type 1} → statement M
 with-replies-spec =
