@@ -19,10 +19,11 @@ use Rattle.rules.specs.Stack.{full, pushed}
 use Rattle.rules.specs.Step.{Mem, withStack, Out, go, halt, Reply, did, stops, perform, agree, branch, leaving, does, deed, ask, stepAt, step}
 use Rattle.rules.proofs.Records.{recordAt, ops-length, ops-at}
 use Rattle.records.proofs.Reading.{rec-at}
+use Rattle.machine.specs.declared.deed.Own.the-variants.{Push, Pop, Compare, Return}
 use Rattle.machine.specs.declared.deed.Deed.{Deed}
-use Rattle.machine.specs.declared.deed.Deed.the-variants.{Leap, Ask, Push, Pop, Compare, Return}
+use Rattle.machine.specs.declared.deed.Deed.the-variants.{Leap, Ask, OnStack}
 use Rattle.machine.specs.Places.{placeFor, placeAt}
-use Rattle.machine.specs.Deeds.{done, Leaps, Asks, Means, Steps, Deeds}
+use Rattle.machine.specs.Deeds.{owns, done, Leaps, Asks, Means, Steps, Deeds}
 use Rattle.machine.proofs.Moves.{moved}
 
 -- ## Actions
@@ -45,20 +46,20 @@ minus t f (stops w) = refl
 
 -- With the places moved.
 module _ (n x y t f : ℕ) {t′ f′ : ℕ} (p : t′ ≡ moveTo n t) (q : f′ ≡ moveTo n f) where
-  pub asks-push : x ≡ 1001 → Asks n x y t f (Push y t′)
-  unfolding does done actOf
+  pub asks-push : x ≡ 1001 → Asks n x y t f (OnStack (Push y t′))
+  unfolding does done owns actOf
   asks-push e m = rw (e, p, moved n t) (push-yes y (moveTo n t) (moveTo n f) (moveTo n t) m)
 
-  pub asks-pop : x ≡ 1002 → Asks n x y t f (Pop t′ f′)
-  unfolding does done actOf
+  pub asks-pop : x ≡ 1002 → Asks n x y t f (OnStack (Pop t′ f′))
+  unfolding does done owns actOf
   asks-pop e m = rw (e, p, q, moved n t, moved n f)
 
-  pub asks-compare : x ≡ 1003 → Asks n x y t f (Compare y t′ f′)
-  unfolding does done actOf
+  pub asks-compare : x ≡ 1003 → Asks n x y t f (OnStack (Compare y t′ f′))
+  unfolding does done owns actOf
   asks-compare e m = rw (e, p, q, moved n t, moved n f)
 
   pub asks-outside : ¬ (x ≡ 1001) → ¬ (x ≡ 1002) → ¬ (x ≡ 1003) → Asks n x y t f (Ask x t′ f′)
-  unfolding does done actOf
+  unfolding does done owns actOf
   asks-outside a b c m = rw (ne-eqb x 1001 a, ne-eqb x 1002 b, ne-eqb x 1003 c, p, q, moved n t, moved n f)
 
 pub leaps : (n k : ℕ) {k′ : ℕ} → k′ ≡ moveTo n k → Leaps n k (Leap k′)
@@ -148,12 +149,12 @@ module _ (n : ℕ) (L : List Op) (i k x y : ℕ) where
             by true e = means-separator (eqb-true k 10 e)
             by false e = means-end (omega (arith, eqb-false k 10 e))
 
-  pub means-call : k ≡ 15 → {to : ℕ} → to ≡ moveTo n x → Means n L i k x y (Push (i + 1) to)
-  unfolding decode written deed does done
+  pub means-call : k ≡ 15 → {to : ℕ} → to ≡ moveTo n x → Means n L i k x y (OnStack (Push (i + 1) to))
+  unfolding decode written deed does done owns
   means-call e p m = rw (e, add-one, p, moved n x)
 
-  pub means-return : k ≡ 16 → Means n L i k x y Return
-  unfolding decode written deed does done
+  pub means-return : k ≡ 16 → Means n L i k x y (OnStack Return)
+  unfolding decode written deed does done owns
   means-return e m = rw e
 
   pub means-zero : k ≡ 0 → Means n L i k x y (Leap 0)

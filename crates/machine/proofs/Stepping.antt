@@ -20,10 +20,12 @@ use Rattle.rules.specs.Step.{Mem, Out, withStack, go, halt, step}
 use Rattle.rules.specs.Run.{Run, stopped, onward, run}
 use Rattle.rules.specs.Answers.{Called, ran, memAt}
 use Rattle.machine.specs.declared.deed.Deed.{Deed}
-use Rattle.machine.specs.declared.deed.Deed.the-variants.{Leap, Ask, Push, Pop, Compare, Return}
+use Rattle.machine.specs.declared.deed.Own.the-variants.{Push, Pop, Compare, Return}
+use Rattle.machine.specs.declared.deed.Own.{Own}
+use Rattle.machine.specs.declared.deed.Deed.the-variants.{Leap, Ask, OnStack}
 use Rattle.machine.specs.declared.stack.Told.{Told}
 use Rattle.machine.specs.Asking.{mem, Heard}
-use Rattle.machine.specs.Deeds.{done, Steps}
+use Rattle.machine.specs.Deeds.{owns, done, Steps}
 use Rattle.machine.specs.Stacks.{said, told, pushing, popping, comparing}
 use Rattle.machine.specs.Stopping.{stops}
 use Rattle.machine.specs.Stepping.{once, arrived, before, answered, Does, Owned}
@@ -65,7 +67,7 @@ module _ (n i : ℕ) (s : Stack) where
   unfolding answered withStack
   owned-push y k replies log = by (leb 96 (s .depth)) refl
     where
-      by : (b : Bool) → leb 96 (s .depth) ≡ b → Called (ran (once i (at replies log) (done n (Push y k) (at replies log)))) (answer k k (pushing s y)) log
+      by : (b : Bool) → leb 96 (s .depth) ≡ b → Called (ran (once i (at replies log) (owns n (Push y k) (at replies log)))) (answer k k (pushing s y)) log
       by true e = let h = leb-true 96 (s .depth) e in rw (pushing-full s h y) (halted i (at replies log) _ _ (push-full n (at replies log) y k h))
       by false e =
           let h = leb-false 96 (s .depth) e in
@@ -75,7 +77,7 @@ module _ (n i : ℕ) (s : Stack) where
   unfolding answered withStack
   owned-pop t f replies log = by (top s) refl
     where
-      by : (o : Option ℕ) → top s ≡ o → Called (ran (once i (at replies log) (done n (Pop t f) (at replies log)))) (answer t f (popping s)) log
+      by : (o : Option ℕ) → top s ≡ o → Called (ran (once i (at replies log) (owns n (Pop t f) (at replies log)))) (answer t f (popping s)) log
       by none e = rw (popping-none s e) (arrives i (at replies log) _ n f s 0 replies log (pop-none n (at replies log) t f e))
       by (some x) e =
           rw (popping-some s x e, ← popped-some s x e) (arrives i (at replies log) _ n t (popped s) 0 replies log (pop-some n (at replies log) t f x e))
@@ -85,11 +87,11 @@ module _ (n i : ℕ) (s : Stack) where
   owned-compare y t f replies log = by (top s) refl
     where
       test : (x : ℕ) → top s ≡ some x → (b : Bool) → eqb x y ≡ b
-          → Called (ran (once i (at replies log) (done n (Compare y t f) (at replies log)))) (answer t f (told (said (eqb x y)) s)) log
+          → Called (ran (once i (at replies log) (owns n (Compare y t f) (at replies log)))) (answer t f (told (said (eqb x y)) s)) log
       test x e true q = rw q (arrives i (at replies log) _ n t s 0 replies log (compare-yes n (at replies log) y t f x e q))
       test x e false q = rw q (arrives i (at replies log) _ n f s 0 replies log (compare-no n (at replies log) y t f x e q))
 
-      by : (o : Option ℕ) → top s ≡ o → Called (ran (once i (at replies log) (done n (Compare y t f) (at replies log)))) (answer t f (comparing s y)) log
+      by : (o : Option ℕ) → top s ≡ o → Called (ran (once i (at replies log) (owns n (Compare y t f) (at replies log)))) (answer t f (comparing s y)) log
       by none e = rw (comparing-none s e y) (arrives i (at replies log) _ n f s 0 replies log (compare-none n (at replies log) y t f e))
       by (some x) e = rw (comparing-some s x e y) (test x e (eqb x y) refl)
 
@@ -120,6 +122,10 @@ module _ (n : ℕ) (z : State) (replies log : List ℕ) where
         → Does n (Ask x t f) z replies log (before w (z .at) (z .stack)) log
     unfolding memAt
     ask-stays w h = halted (z .at) (memAt z replies log) _ w (h n (z .stack))
+
+pub own-does : (n : ℕ) (z : State) (o : Own) (r : Ran) → Owned n o (z .at) (z .stack) r → (replies log : List ℕ) → Does n (OnStack o) z replies log r log
+unfolding done memAt
+own-does n z o r h replies log = h replies log
 
 -- The step of a file by its deed.
 pub steps-once : (s replies log : List ℕ) (z : State) (d : Deed) → Steps s (z .at) d → (a : Ran) (log′ : List ℕ) → Does (count s) d z replies log a log′

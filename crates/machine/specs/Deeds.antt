@@ -7,16 +7,21 @@ use Rattle.rules.specs.Numbers.{moveTo}
 use Rattle.rules.specs.Instruction.{outside, push, pop, compare, actOf, Op, decode, ops}
 use Rattle.rules.specs.Stack.{top}
 use Rattle.rules.specs.Step.{Mem, Out, go, perform, branch, leaving, does, deed, ask, step}
+use Rattle.machine.specs.declared.deed.Own.{Own}
+use Rattle.machine.specs.declared.deed.Own.the-variants.{Push, Pop, Compare, Return}
 use Rattle.machine.specs.declared.deed.Deed.{Deed}
-use Rattle.machine.specs.declared.deed.Deed.the-variants.{Leap, Ask, Push, Pop, Compare, Return}
+use Rattle.machine.specs.declared.deed.Deed.the-variants.{Leap, Ask, OnStack}
+
+unfoldable pub owns : ℕ → Own → Mem → Out
+owns n (Push y k) m = branch true (moveTo n k) (moveTo n k) (perform (push y) m)
+owns n (Pop t f) m = branch true (moveTo n t) (moveTo n f) (perform pop m)
+owns n (Compare y t f) m = branch true (moveTo n t) (moveTo n f) (perform (compare y) m)
+owns n Return m = leaving n (top (m .stack)) m
 
 unfoldable pub done : ℕ → Deed → Mem → Out
 done n (Leap k) m = go (moveTo n k) m
 done n (Ask x t f) m = branch true (moveTo n t) (moveTo n f) (perform (outside x) m)
-done n (Push y k) m = branch true (moveTo n k) (moveTo n k) (perform (push y) m)
-done n (Pop t f) m = branch true (moveTo n t) (moveTo n f) (perform pop m)
-done n (Compare y t f) m = branch true (moveTo n t) (moveTo n f) (perform (compare y) m)
-done n Return m = leaving n (top (m .stack)) m
+done n (OnStack o) m = owns n o m
 
 -- In a file of n records: the deed is a move to k ..
 abbrev pub Leaps : ℕ → ℕ → Deed → Type 0

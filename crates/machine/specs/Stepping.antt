@@ -10,11 +10,12 @@ use Rattle.rules.specs.Numbers.{moveTo}
 use Rattle.rules.specs.Step.{Mem, Out}
 use Rattle.rules.specs.Run.{Run, stopped, onward}
 use Rattle.rules.specs.Answers.{Called, ran, memAt}
+use Rattle.machine.specs.declared.deed.Own.{Own}
 use Rattle.machine.specs.declared.deed.Deed.{Deed}
 use Rattle.machine.specs.declared.stack.Reply.{Reply}
 use Rattle.machine.specs.declared.stack.Reply.the-variants.{Yes, No, Full}
 use Rattle.machine.specs.Asking.{mem}
-use Rattle.machine.specs.Deeds.{done}
+use Rattle.machine.specs.Deeds.{owns, done}
 use Rattle.machine.specs.Stopping.{stops}
 
 -- A run with budget 1 whose one step comes to this.
@@ -39,5 +40,5 @@ abbrev pub Does : ℕ → Deed → State → List ℕ → List ℕ → Ran → L
 Does n d z replies log r log′ = let m = memAt z replies log in Called (ran (once (z .at) m (done n d m))) r log′
 
 -- The same of a deed of the counter stack's own, which leaves the log.
-abbrev pub Owned : ℕ → Deed → ℕ → Stack → Ran → Type 0
-Owned n d i s r = (replies log : List ℕ) → let m = mem s replies 0 log 0 in Called (ran (once i m (done n d m))) r log
+abbrev pub Owned : ℕ → Own → ℕ → Stack → Ran → Type 0
+Owned n o i s r = (replies log : List ℕ) → let m = mem s replies 0 log 0 in Called (ran (once i m (owns n o m))) r log

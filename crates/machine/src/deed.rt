@@ -10,16 +10,20 @@ ghost use Rattle.rules.specs.Instruction.{Op, ops};
 ghost use Rattle.machine.specs.Places.{placeFor, placeAt};
 ghost use Rattle.machine.specs.Deeds.{Leaps, Asks, Means, Steps, Deeds};
 
-// Go to the place; ask the outside action, with the places on yes and on no. The counter stack's own: push the number and go to the
-// place; pop, or compare the top with the number, with the places on yes and on no; go back to the number on top. A place is 0 where
-// the step ends. Places have 32 bits so that the deeds of a base are few bytes, and numbers 16 as in a record.
-pub enum Deed {
-    Leap(u32),
-    Ask(u16, u32, u32),
+// The counter stack's own deeds: push the number and go to the place; pop, or compare the top with the number, with the places on yes
+// and on no; go back to the number on top. A place is 0 where the step ends. It has 32 bits so that a deed has no more than 16 bytes.
+pub enum Own {
     Push(u16, u32),
     Pop(u32, u32),
     Compare(u16, u32, u32),
     Return,
+}
+
+// Go to the place; ask the outside action, with the places on yes and on no; or a deed of the counter stack's own.
+pub enum Deed {
+    Leap(u32),
+    Ask(u16, u32, u32),
+    OnStack(Own),
 }
 
 fn wide(b: u8) -> u16
@@ -58,9 +62,9 @@ fn ask(n: usize, x: u16, y: u16, yes: usize, no: usize) -> Deed
     let on_yes = within(n, yes);
     let on_no = within(n, no);
     match x {
-        1001 => Deed::Push(y, on_yes),
-        1002 => Deed::Pop(on_yes, on_no),
-        1003 => Deed::Compare(y, on_yes, on_no),
+        1001 => Deed::OnStack(Own::Push(y, on_yes)),
+        1002 => Deed::OnStack(Own::Pop(on_yes, on_no)),
+        1003 => Deed::OnStack(Own::Compare(y, on_yes, on_no)),
         _ => Deed::Ask(x, on_yes, on_no),
     }
 }
@@ -129,9 +133,9 @@ fn call(n: usize, kind: u8, i: usize, x: u16, y: u16) -> Deed
     ensures { λ r. ⌜ ((L : List Op) → Means n L i kind x y r) ⌝ }
 {
     if kind == 15 {
-        return Deed::Push((i + 1) as u16, within(n, x as usize));
+        return Deed::OnStack(Own::Push((i + 1) as u16, within(n, x as usize)));
     }
-    Deed::Return
+    Deed::OnStack(Own::Return)
 }
 
 // What one step does is decided by the kind.

@@ -3,6 +3,7 @@ use crate::check::turned_away;
 use crate::check::with_replies;
 use crate::check::with_state;
 use crate::deed::Deed;
+use crate::deed::Own;
 use crate::deed::deed_at;
 use crate::outside::Said;
 use crate::outside::outside;
@@ -27,7 +28,8 @@ ghost use Rattle.rules.specs.Instruction.{ops};
 ghost use Rattle.rules.specs.Run.{run};
 ghost use Rattle.rules.specs.Refusals.{verdict};
 ghost use Rattle.rules.specs.Answers.{Called, ran, memAt, stepping};
-ghost use Rattle.machine.specs.declared.deed.Deed.the-variants.{Ask, Return};
+ghost use Rattle.machine.specs.declared.deed.Own.the-variants.{Return};
+ghost use Rattle.machine.specs.declared.deed.Deed.the-variants.{Ask};
 ghost use Rattle.machine.specs.Checking.{Counted};
 ghost use Rattle.machine.specs.Stepping.{arrived, answered, before, Owned, Does};
 
@@ -92,21 +94,29 @@ fn act(n: usize, replies: &[u8], log: &mut [u8], state: State, x: u16, yes: u32,
     }
 }
 
+// A deed of the counter stack's own.
+fn own(n: usize, deed: Own, at: usize, stack: Stack) -> Ran
+    requires { ⌜ stack .depth ≤ 96 ⌝ }
+    ensures { λ r. ⌜ Owned n deed at stack r ⌝ }
+{
+    let counters = Counters { stack };
+    match deed {
+        Own::Push(y, to) => answer(n, at, counters.push(y), to, to),
+        Own::Pop(yes, no) => answer(n, at, counters.pop(), yes, no),
+        Own::Compare(y, yes, no) => answer(n, at, counters.top_is(y), yes, no),
+        Own::Return => go_back(n, at, stack),
+    }
+}
+
 // The deed of the record where the state stands.
 fn do_deed(n: usize, deed: Deed, replies: &[u8], log: &mut [u8], state: State) -> Ran
     requires { ⌜ state .stack .depth ≤ 96 ⌝ }
     ensures { λ r. ⌜ Does n deed state (now (replies .entry)) (now (log .entry)) r (now (log .exit)) ⌝ }
 {
-    let at = state.at;
-    let stack = state.stack;
-    let counters = Counters { stack };
     match deed {
-        Deed::Leap(k) => arrive(n, k, stack, 0),
+        Deed::Leap(k) => arrive(n, k, state.stack, 0),
         Deed::Ask(x, yes, no) => act(n, replies, log, state, x, yes, no),
-        Deed::Push(y, to) => answer(n, at, counters.push(y), to, to),
-        Deed::Pop(yes, no) => answer(n, at, counters.pop(), yes, no),
-        Deed::Compare(y, yes, no) => answer(n, at, counters.top_is(y), yes, no),
-        Deed::Return => go_back(n, at, stack),
+        Deed::OnStack(o) => own(n, o, state.at, state.stack),
     }
 }
 

@@ -1,4 +1,3 @@
-use mathlib.Core.Path.{refl}
 use borrow.Author.Needs.{needs}
 use Rattle.machine.proofs.Turning.{turns-leap}
 use Rattle.machine.proofs.turn.turn.Statement.{statement}
@@ -12,15 +11,6 @@ turn-spec =
     (λ c. search needs)
     (λ c. search needs)
     (λ c κs. search needs)
-    (λ c. search needs)
-    (λ c κs. search needs)
-    (λ c. search needs)
-    (λ c κs. search needs)
-    (λ c. search needs)
-    (λ c κs. search needs)
     (λ c. rw (c .before .deed .given .1) (turns-leap _ _ _ _ (c .before .before .before .pre .1)))
     (λ c. search needs)
-    (λ c. rw (c .before .before .before .deed3 .given .1) (c .push .ensures))
-    (λ c. rw (c .before .before .before .deed4 .given .1) (c .pop .ensures))
-    (λ c. rw (c .before .before .before .deed5 .given .1) (c .compare .ensures))
-    (λ c. rw (c .before .before .enum-told .given .1) (c .go-back .ensures)))
+    (λ c. rw (c .before .before .before .deed3 .given .1) (c .own .ensures)))
