@@ -3,6 +3,8 @@ use crate::stack::Counters;
 use rules::Stack;
 use rules::State;
 ghost use mathlib.Core.Path.{_≡_};
+ghost use mathlib.Core.Bool.{true};
+ghost use Prim.Native.Nat.{_≤_};
 ghost use Rattle.rules.specs.Answers.{badReply, sound, noState};
 ghost use Rattle.machine.specs.States.{entryFine, stackSound};
 
@@ -43,10 +45,32 @@ pub(crate) fn sound(n: usize, state: State) -> bool
     stack_sound(stack)
 }
 
+fn greater(a: u8, b: u8) -> u8
+    ensures { λ r. ⌜ (a ≤ r) × (b ≤ r) ⌝ }
+{
+    if a < b { b } else { a }
+}
+
+// Whether all reply bytes are 0 or 1. It never leaves early, so that many bytes are looked at together.
+fn all_fine(replies: &[u8]) -> bool
+    ensures { λ r. ⌜ (r ≡ true → badReply (now (replies .entry)) ≡ 0) ⌝ }
+{
+    let mut most: u8 = 0;
+    let mut i: usize = 0;
+    while i < replies.len() {
+        most = greater(most, replies[i]);
+        i += 1;
+    }
+    most <= 1
+}
+
 // The first reply byte that is not 0 or 1, from 1; 0 where there is none.
 pub(crate) fn bad_reply(replies: &[u8]) -> usize
     ensures { λ r. ⌜ r ≡ badReply (now (replies .entry)) ⌝ }
 {
+    if all_fine(replies) {
+        return 0;
+    }
     let mut i: usize = 0;
     while i < replies.len() {
         if 1 < replies[i] {

@@ -4,6 +4,7 @@ use Prim.Native.Nat.{ℕ, suc, _-_, _≤_}
 use native.Mathlib.Omega.{arith}
 use native.Mathlib.Numerals.{add-one}
 use lib.ListN.{length, drop}
+use borrow.Author.Needs.{needs}
 use Rattle.rules.specs.Answers.{badReply, badReplyFrom}
 use Rattle.machine.proofs.States.{reply-bad, reply-good, reply-end}
 use Rattle.machine.proofs.state.bad_reply.Statement.{statement}
@@ -19,15 +20,15 @@ holds : tie.Need-loop-holds Inv-loop μ-loop
 unfolding badReply
 holds c = (omega arith, refl)
 
-returns : tie.Need-returns Inv-loop μ-loop
+returns : tie.Need-returns-2 Inv-loop μ-loop
 returns c =
     let l = c .before .before .before .loop in
-    rw add-one (sym (l .inv .1 ∙ reply-bad (l .i) _ (omega arith) (c .if1 .taken)))
+    rw add-one (sym (l .inv .1 ∙ reply-bad (l .i) _ (omega arith) (c .if2 .taken)))
 
 again : tie.Need-loop-again Inv-loop μ-loop
 again c =
     let l = c .before .before .before .loop in
-    (omega arith, l .inv .1 ∙ reply-good (l .i) _ (omega arith) (c .if1 .left))
+    (omega arith, l .inv .1 ∙ reply-good (l .i) _ (omega arith) (c .if2 .left))
 
 pub bad-reply-spec : {M : Type 1} → statement M
 bad-reply-spec =
@@ -35,6 +36,8 @@ bad-reply-spec =
     (tie.spec
     Inv-loop
     μ-loop
+    (λ c κs. search needs)
+    (λ c. sym (c .before .all-fine .ensures (c .if1 .taken)))
     holds
     (λ c. omega arith)
     (λ c. omega arith)
