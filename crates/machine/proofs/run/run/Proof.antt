@@ -8,12 +8,12 @@ drive-requires c κs =
     let b = c .before .before .before .before .before .before .before in
     run-short _ _ (b .args .s .now) _ (b .pre) (c .before .before .before .with-replies .ensures) _ (c .before .enum-told .given .1)
 
-returns : tie.Need-returns
-returns c checks p =
+refuses : tie.Need-returns
+refuses c checks p =
     run-refused checks _ _ _ _ p (c .before .before .before .before .before .with-replies .ensures) _ _ _ (c .before .before .before .verdict .given .1) _ (c .before .no-state .ensures) _ (c .turned-away .ensures)
 
-returns-2 : tie.Need-returns-2
-returns-2 c checks p =
+runs : tie.Need-returns-2
+runs c checks p =
     run-called checks _ _ _ _ p (c .before .before .before .before .before .before .with-replies .ensures) _ _ _ (c .before .before .before .before .enum-told .given .1) _ _ (c .before .before .drive .ensures)
 
 pub run-spec : {M : Type 1} → statement M
@@ -26,6 +26,6 @@ run-spec =
     (λ c κs. search needs)
     (λ c. search needs)
     drive-requires
-    returns
+    refuses
     (λ c. search needs)
-    returns-2)
+    runs)
