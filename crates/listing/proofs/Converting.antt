@@ -17,6 +17,7 @@ use Rattle.rules.specs.declared.Refusal.the-variants.{Room}
 use Rattle.rules.specs.declared.Verdict.{Verdict}
 use Rattle.rules.specs.declared.Verdict.the-variants.{Accepted, Refused}
 use Rattle.rules.specs.declared.Notation.the-variants.{Routine}
+use Rattle.rules.specs.Checks.{most}
 use Rattle.rules.specs.Refusals.{when, orElse, first, verdictOf, verdict}
 use Rattle.rules.specs.Record.{bytesOf, count, records}
 use Rattle.rules.specs.Instruction.{encode, ops}
@@ -27,8 +28,7 @@ use Rattle.rules.proofs.Records.{All, Small, bytes-length, records-back}
 use Rattle.rules.proofs.Instructions.{Fit, accepted-ops}
 use Rattle.rules.proofs.Fits.{all-fit-small, stages-fit}
 use Rattle.rules.proofs.Length.{converted-length}
-use Rattle.rules.proofs.Refusals.{refused-then, accepted-then, accepted-count, accepted-none}
-use Rattle.shape.proofs.Verdicts.{Sound, accepted}
+use Rattle.rules.proofs.Refusals.{refused-then, accepted-then, accepted-count, accepted-none, Admitted, admitted}
 use Rattle.listing.specs.Text.{listing, textOf}
 use Rattle.listing.specs.Answers.{roomFor, listingOf, printed, Listed}
 use Rattle.listing.proofs.Lengths.{all-narrow, listing-length}
@@ -38,12 +38,12 @@ abbrev alone : List ℕ → Verdict
 alone s = verdict (routineChecks s) (baseCount s)
 
 module _ (s : List ℕ) (e : first (routineChecks s) ≡ none) where
-  sound : Sound s (count s)
+  sound : Admitted s (count s)
   unfolding checkRoutine verdict verdictOf
-  sound = accepted s (count s) (rw e)
+  sound = admitted s (count s) (rw e)
 
   base-fit : All Fit (convert (ops s))
-  base-fit = stages-fit (ops s) (sound .bounded) (accepted-ops Routine s (sound .faultless) tt) .fourth
+  base-fit = stages-fit (ops s) (sound .room) (accepted-ops Routine s (sound .fines .faultless) tt) .fourth
 
   base-length : length (baseRecords s) ≡ convertedLength (ops s)
   unfolding baseRecords
@@ -54,9 +54,9 @@ module _ (s : List ℕ) (e : first (routineChecks s) ≡ none) where
   base-small = all-fit-small (convert (ops s)) base-fit
 
   pub text-length : length (textOf s) ≤ 73744
-  unfolding textOf baseRecords
+  unfolding textOf baseRecords most
   text-length =
-      listing-length (count s) (baseRecords s) (omega (arith, sound .short)) (omega (arith, base-length, sound .bounded)) (all-narrow (convert (ops s)) base-fit)
+      listing-length (count s) (baseRecords s) (omega (arith, sound .fines .few)) (omega (arith, base-length, sound .room)) (all-narrow (convert (ops s)) base-fit)
 
 -- The listing that is printed from the records in the first 8n bytes of an array.
 abbrev pub from : List ℕ → List ℕ → ℕ → List ℕ
@@ -73,7 +73,7 @@ module _ {s out work base spare : List ℕ} {v : Verdict} (c : Converted s out w
   room : {n : ℕ} → alone s ≡ Accepted n → (short (baseCount s) out || short (baseCount s) work) ≡ false
   unfolding short baseCount
   room e =
-      let b = sound s (accepted-none (routineChecks s) (baseCount s) e) .bounded in
+      let b = sound s (accepted-none (routineChecks s) (baseCount s) e) .room in
       rw (le-ltb (length out) (8 * convertedLength (ops s)) (omega arith), le-ltb (length work) (8 * convertedLength (ops s)) (omega arith))
 
   -- 4,096 records have their room, so that refusals 1 to 7 decide
@@ -108,7 +108,7 @@ module _ {s out work base spare : List ℕ} {v : Verdict} (c : Converted s out w
       ∙ ap (λ (b : List ℕ). listing (count s) (records b)) (take-at (bytesOf (baseRecords s)) _ (8 * n) (omega arith))
       ∙ ap (listing (count s)) (records-back (baseRecords s) (base-small s z)) in
       record {
-        bounded = omega (arith, h .bounded);
+        bounded = omega (arith, h .room);
         within = omega (arith, ap length x, length-append (bytesOf (baseRecords s)) (drop (8 * n) out));
         fits = rw t (text-length s z);
         is-text = t;
