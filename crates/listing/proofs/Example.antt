@@ -1,11 +1,9 @@
 -- The paper's example of a listing, and a line of each other sort, by computation.
 use mathlib.Core.Path.{_≡_, refl}
-use Prim.Native.Nat.{ℕ}
-use mathlib.Core.List.{List, [], _∷_}
+use mathlib.Core.List.{[], _∷_}
 use Rattle.rules.specs.declared.Refusal.the-variants.{Growth, Nesting}
 use Rattle.rules.specs.Record.{rec}
 use Rattle.rules.specs.Instruction.{file}
-use Rattle.rules.specs.Refusals.{Told, told}
 use Rattle.rules.proofs.Cases.{listed}
 use Rattle.rules.proofs.Computes.{computes}
 use Rattle.listing.specs.Text.{ascii, digits, decimal, action, sign, instruction, line, lines, listing, textOf, refusedAt, refused}

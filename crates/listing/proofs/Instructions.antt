@@ -1,10 +1,10 @@
 -- The text of an action by x, of an instruction by its kind, and of a refusal by its number and place.
 use mathlib.Core.Path.{_≡_}
 use Prim.Native.Nat.{ℕ}
-use mathlib.Core.List.{List, _++_}
+use mathlib.Core.List.{_++_}
 use borrow.Author.Tests.{eq-eqb, ne-eqb}
 use Rattle.rules.specs.declared.Refusal.{Refusal}
-use Rattle.rules.specs.Refusals.{Told, told}
+use Rattle.rules.specs.Refusals.{told}
 use Rattle.rules.specs.Record.{rec}
 use Rattle.rules.specs.Instruction.{actOf}
 use Rattle.listing.specs.Text.{ascii, named, action, sign, instruction, refusedAt, refused}

@@ -1,14 +1,13 @@
 -- How long a text can get.
 --     refused-length     the line of a refusal has at most 50 bytes
 --     listing-length     a listing has at most 73,744: a first line of at most 16 and, for each of at most 4,096 records, one of at most 18
-use mathlib.Core.Path.{_≡_, refl, sym, ap, _∙_}
-use Prim.Native.Nat.{ℕ, zero, suc, _+_, _*_, _≤_, _<_}
+use Prim.Native.Nat.{ℕ, suc, _+_, _*_, _≤_, _<_}
 use native.Mathlib.Omega.{arith}
 use mathlib.Core.Bool.{Bool, true, false, cond}
 use mathlib.Core.List.{List, [], _∷_, _++_, map}
 use lib.ListN.{length, length-append}
 use lib.Dec.{eqb}
-use Rattle.rules.specs.Record.{Rec, rec}
+use Rattle.rules.specs.Record.{Rec}
 use Rattle.rules.specs.Instruction.{Act, outside, push, pop, compare, conditional, loop, Op, act, test, jump, label, goto, goto2, header, separator, end, call, return, actOf, xOf, yOf, actRec, encode}
 use Rattle.rules.proofs.Records.{All}
 use Rattle.rules.proofs.Instructions.{FitAct, Fit}

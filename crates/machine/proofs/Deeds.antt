@@ -1,6 +1,6 @@
 -- The deeds of the code are those of the definitions, kind by kind.
-use mathlib.Core.Path.{_≡_, refl, sym, ap, _∙_}
-use Prim.Native.Nat.{ℕ, zero, suc, _+_, _-_, _≤_, _<_}
+use mathlib.Core.Path.{_≡_, refl, ap, _∙_}
+use Prim.Native.Nat.{ℕ, suc, _+_, _-_, _≤_, _<_}
 use native.Mathlib.Omega.{arith}
 use native.Mathlib.Numerals.{add-one}
 use mathlib.Core.Bool.{Bool, true, false, cond}
@@ -10,20 +10,20 @@ use lib.ListN.{length, getD, set, List·getD-eq-default}
 use lib.Seq.{getD-set-same, getD-set-other}
 use lib.Dec.{eqb}
 use borrow.Author.Tests.{ne-eqb, eqb-true, eqb-false}
-use Rattle.rules.specs.Record.{Rec, rec, count}
+use Rattle.rules.specs.Record.{Rec, count}
 use Rattle.rules.specs.Numbers.{at, moveTo}
-use Rattle.rules.specs.Instruction.{Act, outside, push, pop, compare, actOf, Op, jump, written, decode, ops}
+use Rattle.rules.specs.Instruction.{push, actOf, Op, jump, written, decode, ops}
 use Rattle.rules.specs.declared.Status.{Status}
 use Rattle.rules.specs.declared.Status.the-variants.{StackFull}
 use Rattle.rules.specs.Stack.{full, pushed}
-use Rattle.rules.specs.Step.{Mem, withStack, Out, go, halt, Reply, did, stops, perform, agree, branch, leaving, does, deed, ask, stepAt, step}
+use Rattle.rules.specs.Step.{Mem, withStack, Reply, did, stops, perform, agree, branch, does, deed, stepAt, step}
 use Rattle.rules.proofs.Records.{recordAt, ops-length, ops-at}
 use Rattle.records.proofs.Reading.{rec-at}
 use Rattle.machine.specs.declared.deed.Own.the-variants.{Push, Pop, Compare, Return}
 use Rattle.machine.specs.declared.deed.Deed.{Deed}
 use Rattle.machine.specs.declared.deed.Deed.the-variants.{Leap, Ask, OnStack}
 use Rattle.machine.specs.Places.{placeFor, placeAt}
-use Rattle.machine.specs.Deeds.{owns, done, Leaps, Asks, Means, Steps, Deeds}
+use Rattle.machine.specs.Deeds.{owns, done, Leaps, Asks, Means, Steps}
 use Rattle.machine.proofs.Moves.{moved}
 
 -- ## Actions

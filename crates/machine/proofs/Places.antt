@@ -1,20 +1,12 @@
 -- Separators and ends are records of the list, so that the number after one fits; and the place of a record whose kind is known.
-use mathlib.Core.Path.{_≡_, refl, sym, ap, _∙_, subst}
-use Prim.Native.Nat.{ℕ, zero, suc, _+_, _-_, _≤_, _<_}
+use mathlib.Core.Path.{_≡_, refl}
+use Prim.Native.Nat.{ℕ, zero, suc, _+_, _-_, _≤_}
 use native.Mathlib.Omega.{arith}
 use mathlib.Core.List.{List, [], _∷_}
-use mathlib.Core.Bool.{Bool, true, false}
-use lib.ListN.{length, take, drop, getD, set, length-drop, length-take}
-use lib.Seq.{getD-set-same, getD-set-other, getD-take}
-use lib.Dec.{eqb}
-use borrow.Author.Tests.{eqb-true, eqb-false}
-use Rattle.rules.specs.Record.{Rec, count}
-use Rattle.rules.specs.Instruction.{Sort, conditional, loop, Op, ops}
+use lib.ListN.{length, drop, length-drop}
+use Rattle.rules.specs.Instruction.{Sort, conditional, Op}
 use Rattle.rules.specs.Numbers.{given}
 use Rattle.rules.specs.Partners.{Role, opens, parts, ends, other, role, endAt, endFrom, separatorAt, separatorFrom, endOf, separatorOf}
-use Rattle.machine.specs.Places.{placeAt}
-use Rattle.rules.proofs.Partners.{end-out, separator-out}
-use Rattle.rules.proofs.Records.{ops-length}
 
 end-from : (b : Sort) (d k : ℕ) (os : List Op) → endFrom b d (suc k) os ≤ k + length os
 unfolding endFrom endAt

@@ -1,6 +1,6 @@
 -- A run turn by turn: what is left of it, with the steps taken, is the whole.
 use mathlib.Core.Path.{_≡_, refl, sym, ap, _∙_}
-use Prim.Native.Nat.{ℕ, suc, _+_, _-_, _*_, _≤_, _<_}
+use Prim.Native.Nat.{ℕ, suc, _+_, _-_, _*_, _≤_}
 use native.Mathlib.Omega.{arith}
 use native.Mathlib.Nat.{add-zero, sub-zero}
 use native.Mathlib.Numerals.{add-one}
@@ -16,7 +16,7 @@ use Rattle.rules.specs.Record.{count}
 use Rattle.rules.specs.Numbers.{names, moveTo}
 use Rattle.rules.specs.Instruction.{ops}
 use Rattle.rules.specs.Stack.{stack, fresh}
-use Rattle.rules.specs.Step.{Mem, go, halt, step}
+use Rattle.rules.specs.Step.{Mem, go, halt}
 use Rattle.rules.specs.Run.{Run, stopped, startOf, freshMem, run, runs}
 use Rattle.rules.specs.Answers.{Called, ran}
 use Rattle.rules.proofs.Records.{ops-length}
@@ -24,7 +24,7 @@ use Rattle.rules.proofs.Runs.{plus, plus-zero, run-zero, run-at-zero, plus-go, 
 use Rattle.machine.specs.declared.deed.Deed.{Deed}
 use Rattle.machine.specs.declared.deed.Deed.the-variants.{Leap, Ask}
 use Rattle.machine.specs.Deeds.{done, Steps, Deeds}
-use Rattle.machine.specs.Asking.{mem, Heard, Spoke}
+use Rattle.machine.specs.Asking.{mem, Heard}
 use Rattle.machine.specs.Stopping.{stops}
 use Rattle.machine.specs.Turning.{Goes}
 use Rattle.machine.proofs.Moves.{named, move-named, move-out}

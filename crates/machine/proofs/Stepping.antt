@@ -1,8 +1,8 @@
 -- A run with budget 1 by what its one step comes to, and the stack's own deeds by its methods' answers.
-use mathlib.Core.Path.{_≡_, refl, sym, ap, _∙_}
-use Prim.Native.Nat.{ℕ, zero, suc, _≤_, _<_}
+use mathlib.Core.Path.{_≡_, refl}
+use Prim.Native.Nat.{ℕ}
 use native.Mathlib.Omega.{arith}
-use mathlib.Core.Bool.{Bool, true, false, cond}
+use mathlib.Core.Bool.{Bool, true, false}
 use mathlib.Core.Option.{Option, none, some}
 use mathlib.Core.List.{List}
 use lib.Dec.{eqb, leb}
@@ -17,7 +17,7 @@ use Rattle.rules.specs.Record.{count}
 use Rattle.rules.specs.Instruction.{Op, ops}
 use Rattle.rules.specs.Stack.{pushed, popped, top}
 use Rattle.rules.specs.Step.{Mem, Out, withStack, go, halt, step}
-use Rattle.rules.specs.Run.{Run, stopped, onward, run}
+use Rattle.rules.specs.Run.{onward, run}
 use Rattle.rules.specs.Answers.{Called, ran, memAt}
 use Rattle.machine.specs.declared.deed.Deed.{Deed}
 use Rattle.machine.specs.declared.deed.Own.the-variants.{Push, Pop, Compare, Return}

@@ -1,5 +1,4 @@
 -- What a single step answers.
-use mathlib.Core.Path.{_≡_}
 use Rattle.rules.specs.Words.{ℕ, cond, List, eqb}
 use Rattle.rules.specs.declared.Stack.{Stack}
 use Rattle.rules.specs.declared.Status.{Status}

@@ -13,7 +13,6 @@ use Rattle.rules.specs.declared.Notation.the-variants.{Base}
 use Rattle.rules.specs.Instruction.{outside, conditional, loop, Op, act, test, jump, label, goto, goto2, header, separator, end, call, return, file}
 use Rattle.rules.specs.Convert.{convert}
 use Rattle.rules.specs.Relative.{toRelative}
-use Rattle.rules.specs.Stack.{fresh}
 use Rattle.rules.specs.Run.{statusNumber, runs}
 use Rattle.rules.specs.Answers.{checkRecords, checkRoutine, baseCount, converting, absoluting, noState, runRoutine, runBase}
 

@@ -1,7 +1,7 @@
 -- The table of cases holds, each row by computation; only "to any budget" is by induction.
 use mathlib.Core.Path.{_≡_, refl, ap}
 use Prim.Native.Nat.{ℕ, zero, suc}
-use mathlib.Core.List.{List, [], _∷_}
+use mathlib.Core.List.{[], _∷_}
 use Rattle.rules.specs.declared.Status.the-variants.{Spent}
 use Rattle.rules.specs.Instruction.{jump}
 use Rattle.rules.specs.Run.{runs}

@@ -6,21 +6,19 @@ use Rattle.rules.specs.declared.Refusal.the-variants.{Nesting, Skip, Gro
 use Rattle.rules.specs.declared.Refusal.the-variants as refusal
 use Rattle.rules.specs.declared.Verdict.{Verdict}
 use Rattle.rules.specs.declared.Verdict.the-variants.{Accepted, Refused}
-use Rattle.rules.specs.declared.Outcome.{Outcome}
 use Rattle.rules.specs.declared.Outcome.the-variants.{Stopped, TurnedAway}
-use Rattle.rules.specs.declared.Stack.{Stack}
 use Rattle.rules.specs.declared.State.{State}
 use Rattle.rules.specs.declared.Ran.{Ran}
 use Rattle.rules.specs.Record.{Rec, bytesOf, count, records}
 use Rattle.rules.specs.declared.Notation.{Notation}
 use Rattle.rules.specs.declared.Notation.the-variants.{Routine, Base, Relative}
-use Rattle.rules.specs.Instruction.{Op, encode, ops}
+use Rattle.rules.specs.Instruction.{encode, ops}
 use Rattle.rules.specs.Refusals.{when, whenAt, first, verdict}
 use Rattle.rules.specs.Checks.{recordChecks}
 use Rattle.rules.specs.Nesting.{nesting}
 use Rattle.rules.specs.Skip.{skip, convertedLength, grown}
 use Rattle.rules.specs.Convert.{convert}
-use Rattle.rules.specs.Relative.{toRelative, toAbsolute, far}
+use Rattle.rules.specs.Relative.{far}
 use Rattle.rules.specs.Stack.{fresh}
 use Rattle.rules.specs.Step.{Mem}
 use Rattle.rules.specs.Run.{Run, run, runs}

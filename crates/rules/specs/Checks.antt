@@ -1,5 +1,5 @@
 -- Refusals 1 to 4, for a routine, a base and a relative base alike.
-use Rattle.rules.specs.Words.{ℕ, zero, suc, _*_, _%_, Bool, true, false, not, cond, _&&_, _||_, Option, none, some, List, [], _∷_, length, drop, eqb, leb, ltb}
+use Rattle.rules.specs.Words.{ℕ, zero, suc, _%_, Bool, true, false, not, _&&_, _||_, Option, none, some, List, [], _∷_, length, drop, eqb, leb, ltb}
 use Rattle.rules.specs.declared.Row.{Row}
 use Rattle.rules.specs.declared.Refusal.{Refusal}
 use Rattle.rules.specs.declared.Refusal.the-variants.{Ragged, Long, Kind, Field}

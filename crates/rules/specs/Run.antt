@@ -1,5 +1,5 @@
 -- Runs: the iterated step, with a budget.
-use Rattle.rules.specs.Words.{ℕ, zero, suc, Bool, cond, List, length, eqb}
+use Rattle.rules.specs.Words.{ℕ, zero, suc, cond, List, length, eqb}
 use Rattle.rules.specs.declared.Status.{Status}
 use Rattle.rules.specs.declared.Status.the-variants.{Ended, NoReply, LogFull, StackFull, Spent}
 use Rattle.rules.specs.Instruction.{Op}

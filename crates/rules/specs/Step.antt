@@ -1,5 +1,5 @@
 -- What one step does, in a routine and in a base.
-use Rattle.rules.specs.Words.{ℕ, zero, suc, _+_, _-_, _*_, Bool, true, false, not, cond, Option, none, some, List, length, getD, set, eqb, leb, ltb}
+use Rattle.rules.specs.Words.{ℕ, suc, _+_, _-_, _*_, Bool, true, not, cond, Option, none, some, List, length, getD, set, eqb, leb, ltb}
 use Rattle.rules.specs.declared.Stack.{Stack}
 use Rattle.rules.specs.declared.Status.{Status}
 use Rattle.rules.specs.declared.Status.the-variants.{Ended, NoReply, LogFull, StackFull}

@@ -1,9 +1,9 @@
 -- The verdict on a routine: what records::check finds, then refusals 5 to 7.
 --     check-refused, check-on, not-long     after refusals 1 to 4
 --     nesting-refused, skip-refused, growth-refused, shape-accepted     5, 6 and 7
-use mathlib.Core.Path.{_≡_, refl, ap, _∙_}
+use mathlib.Core.Path.{_≡_, refl, _∙_}
 use Prim.Native.Nat.{ℕ, zero, suc, _≤_, _<_}
-use mathlib.Core.Option.{Option, some}
+use mathlib.Core.Option.{some}
 use mathlib.Core.List.{List}
 use borrow.Author.Tests.{lt-ltb, le-ltb}
 use Rattle.rules.specs.declared.Refusal.{Refusal}

@@ -1,4 +1,3 @@
-use mathlib.Core.Path.{_≡_}
 use borrow.Author.Needs.{needs}
 use Rattle.rules.specs.Refusals.{told}
 use Rattle.listing.proofs.number_of.Statement.{statement}

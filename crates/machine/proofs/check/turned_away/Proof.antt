@@ -1,5 +1,4 @@
-use mathlib.Core.Path.{_≡_, refl, sym, ap, _∙_}
-use borrow.Author.Needs.{needs}
+use mathlib.Core.Path.{refl}
 use Rattle.rules.specs.Answers.{turnedAway}
 use Rattle.machine.proofs.check.turned_away.Statement.{statement}
 use Rattle.machine.proofs.check.turned_away.Tie as tie

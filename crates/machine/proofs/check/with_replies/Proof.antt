@@ -1,7 +1,5 @@
-use mathlib.Core.Path.{_≡_, refl, sym, ap, _∙_}
 use borrow.Author.Needs.{needs}
-use Rattle.rules.specs.Refusals.{whenAt, verdictOf}
-use Rattle.rules.specs.Answers.{badReply}
+use Rattle.rules.specs.Refusals.{verdictOf}
 use Rattle.machine.specs.Checking.{withReplies}
 use Rattle.machine.proofs.Checking.{when-at, when-zero}
 use Rattle.machine.proofs.check.with_replies.Statement.{statement}

@@ -1,4 +1,3 @@
-use native.Mathlib.Omega.{arith}
 use borrow.Author.Needs.{needs}
 use Rattle.machine.proofs.Deeds.{steps-read}
 use Rattle.machine.proofs.deed.deed_at.Statement.{statement}

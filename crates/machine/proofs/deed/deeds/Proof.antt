@@ -1,9 +1,8 @@
-use Prim.Native.Nat.{ℕ, _-_, _≤_}
-use mathlib.Core.Path.{_≡_, refl, ap, _∙_}
+use Prim.Native.Nat.{_-_, _≤_}
+use mathlib.Core.Path.{_≡_, refl}
 use native.Mathlib.Omega.{arith}
 use lib.ListN.{length, length-set}
 use borrow.Author.Needs.{needs}
-use Rattle.rules.specs.Record.{count}
 use Rattle.machine.proofs.Deeds.{First, one-more}
 use Rattle.machine.proofs.deed.deeds.Statement.{statement}
 use Rattle.machine.proofs.deed.deeds.Tie as tie

@@ -1,4 +1,4 @@
-use mathlib.Core.Path.{_≡_, sym, _∙_}
+use mathlib.Core.Path.{sym}
 use Rattle.machine.proofs.Moves.{names-zero, names-leb}
 use Rattle.machine.proofs.place.names.Statement.{statement}
 use Rattle.machine.proofs.place.names.Tie as tie

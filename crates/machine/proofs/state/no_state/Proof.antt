@@ -1,5 +1,3 @@
-use mathlib.Core.Path.{ap}
-use Rattle.rules.specs.declared.Stack.{Stack}
 use Rattle.rules.specs.Answers.{noState}
 use borrow.Author.Needs.{needs}
 use Rattle.machine.proofs.state.no_state.Statement.{statement}

@@ -1,4 +1,3 @@
-use mathlib.Core.Path.{_≡_, refl, sym, ap, _∙_}
 use borrow.Author.Needs.{needs}
 use Rattle.machine.specs.Stepping.{answered}
 use Rattle.machine.proofs.step.answer.Statement.{statement}

@@ -1,4 +1,4 @@
-use mathlib.Core.Path.{_≡_, refl, sym, ap, _∙_}
+use mathlib.Core.Path.{sym, _∙_}
 use borrow.Author.Needs.{needs}
 use Rattle.machine.proofs.Stepping.{arrived-in, arrived-out}
 use Rattle.machine.proofs.step.arrive.Statement.{statement}
