@@ -6,11 +6,11 @@ use crate::second_level::put_pair;
 use records::kind_at;
 use records::put_record;
 use records::x_at;
-ghost use mathlib.Core.List.{[], _∷_, map};
-ghost use Prim.Native.Nat.{_*_, _≤_, _<_};
+ghost use mathlib.Core.List.{[], _∷_};
+ghost use Prim.Native.Nat.{_*_, _≤_};
 ghost use lib.ListN.{length};
 ghost use Rattle.rules.specs.Record.{rec, count};
-ghost use Rattle.rules.specs.Instruction.{encode, ops};
+ghost use Rattle.rules.specs.Instruction.{ops};
 ghost use Rattle.rules.specs.Calls.{calls};
 ghost use Rattle.records.specs.Writing.{Wrote};
 ghost use Rattle.lower.specs.Stages.{group, chainOf, Asks};
@@ -41,7 +41,7 @@ fn write_chain(s: &[u8], j: usize, out: &mut [u8]) -> usize
 }
 
 // R##k at i becomes push(i+1) followed by a second-level ##k. ##R becomes the chain for n, the routine's record count.
-fn write_group(s: &[u8], i: usize, out: &mut [u8]) -> usize
+pub(crate) fn write_group(s: &[u8], i: usize, out: &mut [u8]) -> usize
     requires { ⌜ Asks Stage.Calls (now s) × (1 ≤ i) × (i ≤ count (now s)) × (8 * length (group Stage.Calls (now s) i) ≤ length (now out)) ⌝ }
     ensures { λ r. ⌜ Wrote (group Stage.Calls (now (s .entry)) i) (now (out .entry)) (now (out .exit)) r ⌝ }
 {
@@ -56,19 +56,4 @@ fn write_group(s: &[u8], i: usize, out: &mut [u8]) -> usize
         16 => write_chain(s, s.len() / 8, out),
         _ => put_kept(Stage::Calls, s, i, out),
     }
-}
-
-// The whole stage: each record's group goes into the unwritten rest of the output. Answers how many bytes it wrote.
-pub(crate) fn calls(s: &[u8], out: &mut [u8]) -> usize
-    requires { ⌜ Asks Stage.Calls (now s) × (8 * length (calls (ops (now s))) ≤ length (now out)) ⌝ }
-    ensures { λ r. ⌜ Wrote (map encode (calls (ops (now (s .entry))))) (now (out .entry)) (now (out .exit)) r ⌝ }
-{
-    let n = s.len() / 8;
-    let mut at = 0;
-    let mut i = 0;
-    while i < n {
-        at += write_group(s, i + 1, &mut out[at..]);
-        i += 1;
-    }
-    at
 }

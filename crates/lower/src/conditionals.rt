@@ -12,12 +12,11 @@ use shape::conditional_end;
 use shape::item_separator;
 use shape::separator_of;
 ghost use mathlib.Core.Path.{_≡_};
-ghost use mathlib.Core.List.{map};
 ghost use Prim.Native.Nat.{suc, _*_, _≤_};
 ghost use lib.ListN.{length};
 ghost use Rattle.rules.specs.Record.{count};
 ghost use Rattle.rules.specs.Numbers.{given};
-ghost use Rattle.rules.specs.Instruction.{encode, ops};
+ghost use Rattle.rules.specs.Instruction.{ops};
 ghost use Rattle.rules.specs.Conditionals.{itsSeparator, conditionals};
 ghost use Rattle.records.specs.Writing.{Wrote};
 ghost use Rattle.lower.specs.Stages.{group, leads, Asks};
@@ -35,7 +34,7 @@ fn past_end(s: &[u8], i: usize) -> u16
 
 // With k the separator's number: +a{ becomes -a and a second-level ##(k+1), -a{ becomes +a and the same. A header without a separator
 // gets ##0 there. }{ becomes ##(k+1), k its end's number. } at i becomes ##(i+1) if its item has a separator, else ##0.
-fn write_group(s: &[u8], i: usize, out: &mut [u8]) -> usize
+pub(crate) fn write_group(s: &[u8], i: usize, out: &mut [u8]) -> usize
     requires { ⌜ Asks Stage.Conditionals (now s) × (1 ≤ i) × (i ≤ count (now s)) × (8 * length (group Stage.Conditionals (now s) i) ≤ length (now out)) ⌝ }
     ensures { λ r. ⌜ Wrote (group Stage.Conditionals (now (s .entry)) i) (now (out .entry)) (now (out .exit)) r ⌝ }
 {
@@ -65,19 +64,4 @@ fn write_group(s: &[u8], i: usize, out: &mut [u8]) -> usize
         11 => put_record(out, 4, past_end(s, i), 0),
         _ => put_kept(Stage::Conditionals, s, i, out),
     }
-}
-
-// The whole stage: each record's group goes into the unwritten rest of the output. Answers how many bytes it wrote.
-pub(crate) fn conditionals(s: &[u8], out: &mut [u8]) -> usize
-    requires { ⌜ Asks Stage.Conditionals (now s) × (8 * length (conditionals (ops (now s))) ≤ length (now out)) ⌝ }
-    ensures { λ r. ⌜ Wrote (map encode (conditionals (ops (now (s .entry))))) (now (out .entry)) (now (out .exit)) r ⌝ }
-{
-    let n = s.len() / 8;
-    let mut at = 0;
-    let mut i = 0;
-    while i < n {
-        at += write_group(s, i + 1, &mut out[at..]);
-        i += 1;
-    }
-    at
 }

@@ -4,16 +4,16 @@ mod conditionals;
 mod labels;
 mod loops;
 mod second_level;
+mod stages;
 
-use calls::calls;
-use conditionals::conditionals;
 use labels::labels;
-use loops::loops;
 use records::clear;
 use rules::Refusal;
 use rules::Verdict;
+use second_level::Stage;
 use shape::base_count;
 use shape::check_routine;
+use stages::expand;
 ghost use mathlib.Core.Path.{_≡_};
 ghost use Prim.Native.Nat.{_*_, _≤_};
 ghost use lib.ListN.{length};
@@ -28,9 +28,9 @@ fn write_base(routine: &[u8], out: &mut [u8], work: &mut [u8]) -> usize
     ensures { λ r. ⌜ Wrote (baseRecords (now (routine .entry))) (now (out .entry)) (now (out .exit)) r ⌝ }
 {
     let first = labels(routine, work);
-    let second = calls(&work[..first], out);
-    let third = loops(&out[..second], work);
-    conditionals(&work[..third], out)
+    let second = expand(Stage::Calls, &work[..first], out);
+    let third = expand(Stage::Loops, &out[..second], work);
+    expand(Stage::Conditionals, &work[..third], out)
 }
 
 // The base of a routine, in the first 8 bytes a record of the output; the working buffer is then all zero. A refusal, 1 to 8, leaves

@@ -10,17 +10,15 @@ use records::x_at;
 use records::y_at;
 use shape::loop_end;
 use shape::loop_header;
-ghost use mathlib.Core.List.{map};
 ghost use Prim.Native.Nat.{_*_, _≤_};
 ghost use lib.ListN.{length};
 ghost use Rattle.rules.specs.Record.{count};
-ghost use Rattle.rules.specs.Instruction.{encode, ops};
 ghost use Rattle.rules.specs.Loops.{loops};
 ghost use Rattle.records.specs.Writing.{Wrote};
 ghost use Rattle.lower.specs.Stages.{group, Asks};
 
 // With k the partner's number: +a{* becomes -a and a second-level ##(k+1); -a{* becomes +a and the same; *} becomes ##k.
-fn write_group(s: &[u8], i: usize, out: &mut [u8]) -> usize
+pub(crate) fn write_group(s: &[u8], i: usize, out: &mut [u8]) -> usize
     requires { ⌜ Asks Stage.Loops (now s) × (1 ≤ i) × (i ≤ count (now s)) × (8 * length (group Stage.Loops (now s) i) ≤ length (now out)) ⌝ }
     ensures { λ r. ⌜ Wrote (group Stage.Loops (now (s .entry)) i) (now (out .entry)) (now (out .exit)) r ⌝ }
 {
@@ -32,19 +30,4 @@ fn write_group(s: &[u8], i: usize, out: &mut [u8]) -> usize
         14 => put_record(out, 4, place(Stage::Loops, s, loop_header(s, i)), 0),
         _ => put_kept(Stage::Loops, s, i, out),
     }
-}
-
-// The whole stage: each record's group goes into the unwritten rest of the output. Answers how many bytes it wrote.
-pub(crate) fn loops(s: &[u8], out: &mut [u8]) -> usize
-    requires { ⌜ Asks Stage.Loops (now s) × (8 * length (loops (ops (now s))) ≤ length (now out)) ⌝ }
-    ensures { λ r. ⌜ Wrote (map encode (loops (ops (now (s .entry))))) (now (out .entry)) (now (out .exit)) r ⌝ }
-{
-    let n = s.len() / 8;
-    let mut at = 0;
-    let mut i = 0;
-    while i < n {
-        at += write_group(s, i + 1, &mut out[at..]);
-        i += 1;
-    }
-    at
 }

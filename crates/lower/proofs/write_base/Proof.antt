@@ -24,21 +24,23 @@ given c = ready (c .args .routine .now) (c .pre .0)
 first : (c : tie.After-labels) → let a = c .before .before .before .before .before .args in Wrote (map encode (labels (ops (a .routine .now)))) (a .work .now) (c .labels .last .1 .0) (c .labels .result)
 first c = c .labels .ensures
 
-second : (c : tie.After-calls) → let a = c .before .before .before .before .before .before .before .before .before .before .args in Wrote (map encode (calls (labels (ops (a .routine .now))))) (a .out .now) (c .calls .last .1 .0) (c .calls .result)
-second c = next _ (first (c .before .before .before .before .before)) (given (c .before .before .before .before .before .before .before .before .before .before) .fits .first) calls (c .calls .ensures)
+second : (c : tie.After-expand) → let a = c .before .before .before .before .before .before .before .before .before .before .args in Wrote (map encode (calls (labels (ops (a .routine .now))))) (a .out .now) (c .expand .last .1 .1 .0) (c .expand .result)
+unfolding calls becomes expanded
+second c = next (labels (ops (c .before .before .before .before .before .before .before .before .before .before .args .routine .now))) (first (c .before .before .before .before .before)) (given (c .before .before .before .before .before .before .before .before .before .before) .fits .first) calls (c .expand .ensures)
 
-third : (c : tie.After-loops) → let a = c .before .before .before .before .before .before .before .before .before .before .before .before .before .before .before .args in Wrote (map encode (loops (calls (labels (ops (a .routine .now)))))) (c .before .before .before .before .before .before .before .before .before .before .labels .last .1 .0) (c .loops .last .1 .0) (c .loops .result)
-third c = next _ (second (c .before .before .before .before .before)) (given (c .before .before .before .before .before .before .before .before .before .before .before .before .before .before .before) .fits .second) loops (c .loops .ensures)
+third : (c : tie.After-expand2) → let a = c .before .before .before .before .before .before .before .before .before .before .before .before .before .before .before .args in Wrote (map encode (loops (calls (labels (ops (a .routine .now)))))) (c .before .before .before .before .before .before .before .before .before .before .labels .last .1 .0) (c .expand2 .last .1 .1 .0) (c .expand2 .result)
+unfolding loops becomes expanded
+third c = next (calls (labels (ops (c .before .before .before .before .before .before .before .before .before .before .before .before .before .before .before .args .routine .now)))) (second (c .before .before .before .before .before)) (given (c .before .before .before .before .before .before .before .before .before .before .before .before .before .before .before) .fits .second) loops (c .expand2 .ensures)
 
-fourth : (c : tie.After-conditionals) → let a = c .before .before .before .before .before .before .before .before .before .before .before .before .before .before .before .before .before .before .before .before .args in Wrote (map encode (convert (ops (a .routine .now)))) (c .before .before .before .before .before .before .before .before .before .before .calls .last .1 .0) (c .conditionals .last .1 .0) (c .conditionals .result)
-unfolding convert
-fourth c = next _ (third (c .before .before .before .before .before)) (given (c .before .before .before .before .before .before .before .before .before .before .before .before .before .before .before .before .before .before .before .before) .fits .third) conditionals (c .conditionals .ensures)
+fourth : (c : tie.After-expand3) → let a = c .before .before .before .before .before .before .before .before .before .before .before .before .before .before .before .before .before .before .before .before .args in Wrote (map encode (convert (ops (a .routine .now)))) (c .before .before .before .before .before .before .before .before .before .before .expand .last .1 .1 .0) (c .expand3 .last .1 .1 .0) (c .expand3 .result)
+unfolding convert conditionals becomes expanded
+fourth c = next (loops (calls (labels (ops (c .before .before .before .before .before .before .before .before .before .before .before .before .before .before .before .before .before .before .before .before .args .routine .now))))) (third (c .before .before .before .before .before)) (given (c .before .before .before .before .before .before .before .before .before .before .before .before .before .before .before .before .before .before .before .before) .fits .third) conditionals (c .expand3 .ensures)
 
 labels-requires : tie.Need-labels-requires
 unfolding baseCount
 labels-requires c κs = let b = c .before .before .before .before in (given b .own, omega (arith, given b .starts))
 
-calls-requires : tie.Need-calls-requires
+calls-requires : tie.Need-expand-requires
 unfolding calls becomes expanded baseCount
 calls-requires c κs =
     let g = given (c .before .before .before .before .before .before .before .before .before) in
@@ -46,7 +48,7 @@ calls-requires c κs =
     let v = first (c .before .before .before .before) in
     (asks (labels L) v (g .fits .first) Calls (omega (arith, g .short, labels-room L)) (omega (arith, g .short, calls-room L)), omega (arith, calls-room L, next-length (labels L) v (g .fits .first) calls))
 
-loops-requires : tie.Need-loops-requires
+loops-requires : tie.Need-expand-requires-2
 unfolding loops becomes expanded baseCount
 loops-requires c κs =
     let g = given (c .before .before .before .before .before .before .before .before .before .before .before .before .before .before) in
@@ -54,7 +56,7 @@ loops-requires c κs =
     let v = second (c .before .before .before .before) in
     (asks (calls (labels L)) v (g .fits .second) Loops (omega (arith, g .short, calls-room L)) (omega (arith, g .short, loops-room L)), omega (arith, loops-room L, next-length (calls (labels L)) v (g .fits .second) loops))
 
-conditionals-requires : tie.Need-conditionals-requires
+conditionals-requires : tie.Need-expand-requires-3
 unfolding convert conditionals becomes expanded baseCount
 conditionals-requires c κs =
     let g = given (c .before .before .before .before .before .before .before .before .before .before .before .before .before .before .before .before .before .before .before) in
