@@ -1,8 +1,9 @@
 use Prim.Native.Nat.{_-_, _≤_}
 use mathlib.Core.Path.{_≡_, refl}
 use native.Mathlib.Omega.{arith}
-use lib.ListN.{length, length-set}
+use lib.ListN.{length, length-replicate, length-set}
 use borrow.Author.Needs.{needs}
+use Rattle.machine.specs.declared.deed.Deed.the-variants.{Leap}
 use Rattle.machine.proofs.Deeds.{First, one-more}
 use Rattle.machine.proofs.deed.deeds.Statement.{statement}
 use Rattle.machine.proofs.deed.deeds.Tie as tie
@@ -29,7 +30,7 @@ deeds-spec =
     (tie.spec
     Inv-loop
     μ-loop
-    (λ c. (omega arith, refl, λ j h. absurd (omega arith)))
+    (λ c. (omega arith, length-replicate 4096 (Leap 0), λ j h. absurd (omega arith)))
     (λ c. omega arith)
     (λ c κs. search needs)
     (λ c. search needs)
