@@ -30,8 +30,8 @@ use Rattle.rules.proofs.Refusals.{first-append, when-none, held, admitted}
 use Rattle.records.specs.Reading.{recAt}
 use Rattle.records.proofs.Reading.{rec-at}
 use Rattle.stack.proofs.Moves.{named, names-leb, move-in}
-use Rattle.places.specs.Places.{placeAt}
-use Rattle.places.proofs.Places.{place-below}
+use Rattle.ways.specs.Places.{placeAt}
+use Rattle.ways.proofs.Places.{place-below}
 use Rattle.deeds.specs.Deeds.{placeIn}
 use Rattle.states.specs.States.{withReplies, withState, awayWith}
 use Rattle.machine.specs.Running.{freshAt, Right}

@@ -18,7 +18,7 @@ use Rattle.rules.proofs.Records.{recordAt, ops-length, ops-at}
 use Rattle.records.specs.Reading.{recAt}
 use Rattle.records.proofs.Reading.{rec-at}
 use Rattle.stack.proofs.Moves.{move-named}
-use Rattle.places.specs.Places.{places, placeFor, placeAt}
+use Rattle.ways.specs.Places.{places, placeFor, placeAt}
 use Rattle.deeds.specs.declared.Own.the-variants.{Push, Pop}
 use Rattle.deeds.specs.declared.Deed.{Deed}
 use Rattle.deeds.specs.declared.Deed.the-variants.{Leap, Ask, Change, Compare, Return}

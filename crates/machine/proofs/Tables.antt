@@ -10,7 +10,7 @@ use lib.Dec.{eqb, leb}
 use borrow.Author.Tests.{eqb-true, eqb-false, le-leb, lt-leb}
 use Rattle.rules.specs.Record.{count}
 use Rattle.rules.specs.Numbers.{names, moveTo}
-use Rattle.places.specs.Places.{placeAt}
+use Rattle.ways.specs.Places.{placeAt}
 use Rattle.deeds.specs.Deeds.{placeIn}
 use Rattle.stack.proofs.Moves.{named, names-leb, move-out}
 use Rattle.machine.specs.Running.{Right, Put}

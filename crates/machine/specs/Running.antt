@@ -9,7 +9,7 @@ use Rattle.rules.specs.declared.Outcome.the-variants.{Stopped}
 use Rattle.rules.specs.Record.{count}
 use Rattle.rules.specs.Numbers.{names, moveTo}
 use Rattle.rules.specs.Stack.{fresh}
-use Rattle.places.specs.Places.{placeAt}
+use Rattle.ways.specs.Places.{placeAt}
 use Rattle.deeds.specs.Deeds.{placeIn}
 
 abbrev pub freshAt : ℕ → State

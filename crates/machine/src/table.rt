@@ -1,6 +1,6 @@
 // The table of places: where the gotos and brackets of a routine lead, looked up once before a run.
-use places::place;
 use stack::names;
+use ways::place;
 ghost use mathlib.Core.Path.{_≡_};
 ghost use mathlib.Core.Bool.{true};
 ghost use Prim.Native.Nat.{ℕ, _≤_};

@@ -1,7 +1,7 @@
 use mathlib.Core.Path.{_≡_, ap, _∙_}
 use Prim.Native.Nat.{_<_}
 use Rattle.records.specs.Reading.{recAt}
-use Rattle.places.proofs.Places.{from-one, in-file}
+use Rattle.ways.proofs.Places.{from-one, in-file}
 use Rattle.deeds.specs.Deeds.{rows, deedOf}
 use Rattle.deeds.proofs.Deeds.{row-none}
 use borrow.Author.Needs.{needs}

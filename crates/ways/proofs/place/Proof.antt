@@ -5,10 +5,10 @@ use native.Mathlib.Numerals.{add-one}
 use borrow.Author.Needs.{needs}
 use Rattle.rules.specs.Instruction.{conditional, loop}
 use Rattle.rules.specs.Labels.{target, target2}
-use Rattle.places.specs.Places.{places, placeFor, placeAt}
-use Rattle.places.proofs.Places.{in-file, end-in, separator-in, past-of, place-header, place-loop, place-below, place-above}
-use Rattle.places.proofs.place.Statement.{statement}
-use Rattle.places.proofs.place.Tie as tie
+use Rattle.ways.specs.Places.{places, placeFor, placeAt}
+use Rattle.ways.proofs.Places.{in-file, end-in, separator-in, past-of, place-header, place-loop, place-below, place-above}
+use Rattle.ways.proofs.place.Statement.{statement}
+use Rattle.ways.proofs.place.Tie as tie
 
 fits : tie.Need-next-if-requires
 fits c κs =

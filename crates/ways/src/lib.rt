@@ -5,7 +5,7 @@ use records::y_at;
 ghost use mathlib.Core.Path.{_≡_};
 ghost use Prim.Native.Nat.{_+_, _<_, _^_};
 ghost use Rattle.rules.specs.Numbers.{given};
-ghost use Rattle.places.specs.Places.{placeAt};
+ghost use Rattle.ways.specs.Places.{placeAt};
 
 // The number after i, where k names a record.
 fn next_if(k: usize, i: usize) -> usize

@@ -15,7 +15,7 @@ use Rattle.rules.specs.Partners.{Role, opens, parts, ends, other, role, endAt, 
 use Rattle.rules.proofs.Records.{ops-length}
 use Rattle.records.specs.Reading.{recAt}
 use Rattle.records.proofs.Reading.{rec-zero, rec-none}
-use Rattle.places.specs.Places.{places, placeFor}
+use Rattle.ways.specs.Places.{places, placeFor}
 
 end-from : (b : Sort) (d k : ℕ) (os : List Op) → endFrom b d (suc k) os ≤ k + length os
 unfolding endFrom endAt

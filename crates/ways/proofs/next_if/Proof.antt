@@ -1,8 +1,8 @@
 use mathlib.Core.Path.{sym}
 use borrow.Author.Needs.{needs}
-use Rattle.places.proofs.Places.{given-none, given-some}
-use Rattle.places.proofs.next_if.Statement.{statement}
-use Rattle.places.proofs.next_if.Tie as tie
+use Rattle.ways.proofs.Places.{given-none, given-some}
+use Rattle.ways.proofs.next_if.Statement.{statement}
+use Rattle.ways.proofs.next_if.Tie as tie
 
 pub next-if-spec : {M : Type 1} → statement M
 next-if-spec =
