@@ -1,3 +1,2 @@
 pub mod Reading
 pub mod Length
-pub mod Checking

@@ -20,7 +20,7 @@ fn is_test(kind: u8) -> bool
 
 // The place of refusal 6: the lowest plain test that stands directly before a kind that adds places, since skipping one source record
 // would then land inside its expansion; 0 where there is none.
-pub fn skip_place(s: &[u8]) -> usize
+pub(crate) fn skip_place(s: &[u8]) -> usize
     ensures { λ r. ⌜ r ≡ skip (ops (now (s .entry))) ⌝ }
 {
     let n = s.len() / 8;
