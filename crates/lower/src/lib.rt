@@ -6,12 +6,12 @@ mod loops;
 mod second_level;
 mod stages;
 
+use growth::base_count;
 use labels::labels;
 use records::clear;
 use rules::Refusal;
 use rules::Verdict;
 use second_level::Stage;
-use shape::base_count;
 use shape::check_routine;
 use stages::expand;
 ghost use mathlib.Core.Path.{_≡_};

@@ -19,8 +19,8 @@ use Rattle.rules.specs.Nesting.{nesting}
 use Rattle.rules.specs.Skip.{skip, convertedLength, grown}
 use Rattle.rules.specs.Answers.{routineChecks, checkRecords, checkRoutine}
 use Rattle.rules.proofs.Refusals.{refused-then, accepted-then, accepted-count, held}
-use Rattle.shape.specs.Length.{baseLength}
-use Rattle.shape.proofs.Lengths.{base-is}
+use Rattle.growth.specs.Length.{baseLength}
+use Rattle.growth.proofs.Lengths.{base-is}
 
 -- ## One check after another
 

@@ -1,8 +1,8 @@
 // The checks of a routine, 1 to 7, in the paper's order.
 use crate::nesting::nesting_place;
-use crate::skip::base_count;
-use crate::skip::skip_place;
 use checks::check_records;
+use growth::base_count;
+use growth::skip_place;
 use rules::Notation;
 use rules::Refusal;
 use rules::Verdict;

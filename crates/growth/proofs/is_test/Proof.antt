@@ -1,7 +1,7 @@
 use borrow.Author.Tests.{ne-eqb}
-use Rattle.shape.specs.Length.{testKind}
-use Rattle.shape.proofs.skip.is_test.Statement.{statement}
-use Rattle.shape.proofs.skip.is_test.Tie as tie
+use Rattle.growth.specs.Length.{testKind}
+use Rattle.growth.proofs.is_test.Statement.{statement}
+use Rattle.growth.proofs.is_test.Tie as tie
 
 pub is-test-spec : {M : Type 1} → statement M
 unfolding testKind

@@ -1,11 +1,11 @@
-// The places added in the base, refusal 6 and the converted length: all by the table.
+// The places that a routine's records add in its base, by the table: refusal 6 and the converted length.
 use checks::all_rows;
 use checks::is_listed;
 use rules::Notation;
 ghost use mathlib.Core.Path.{_≡_};
 ghost use Rattle.rules.specs.Instruction.{ops};
 ghost use Rattle.rules.specs.Skip.{skip};
-ghost use Rattle.shape.specs.Length.{testKind, baseLength};
+ghost use Rattle.growth.specs.Length.{testKind, baseLength};
 
 // A plain test, kind 2 or 3.
 fn is_test(kind: u8) -> bool
@@ -20,7 +20,7 @@ fn is_test(kind: u8) -> bool
 
 // The place of refusal 6: the lowest plain test that stands directly before a kind that adds places, since skipping one source record
 // would then land inside its expansion; 0 where there is none.
-pub(crate) fn skip_place(s: &[u8]) -> usize
+pub fn skip_place(s: &[u8]) -> usize
     ensures { λ r. ⌜ r ≡ skip (ops (now (s .entry))) ⌝ }
 {
     let n = s.len() / 8;

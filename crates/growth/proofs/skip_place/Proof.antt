@@ -14,9 +14,9 @@ use Rattle.rules.specs.Checks.{listed}
 use Rattle.rules.specs.Instruction.{ops}
 use Rattle.rules.specs.Skip.{skip}
 use Rattle.checks.proofs.Rows.{blank, routine-above, routine-within, routine-row}
-use Rattle.shape.proofs.Lengths.{row-small, skipsFrom, skips-start, skips-out, no-test, next-unlisted, next-adds-not, next-adds}
-use Rattle.shape.proofs.skip.skip_place.Statement.{statement}
-use Rattle.shape.proofs.skip.skip_place.Tie as tie
+use Rattle.growth.proofs.Lengths.{row-small, skipsFrom, skips-start, skips-out, no-test, next-unlisted, next-adds-not, next-adds}
+use Rattle.growth.proofs.skip_place.Statement.{statement}
+use Rattle.growth.proofs.skip_place.Tie as tie
 
 abbrev Inv-loop : tie.InvT-loop
 Inv-loop s n rows k₀ k = (k ≤ count s) × (skip (ops s) ≡ skipsFrom s k)

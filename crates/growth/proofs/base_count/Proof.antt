@@ -12,10 +12,10 @@ use Rattle.rules.specs.Record.{count}
 use Rattle.rules.specs.Table.{rowOf}
 use Rattle.rules.specs.Checks.{listed}
 use Rattle.checks.proofs.Rows.{blank, routine-above, routine-within, routine-row}
-use Rattle.shape.specs.Length.{baseLength}
-use Rattle.shape.proofs.Lengths.{addedFrom, sum-row, sum-none, sum-out, base-none, base-starts, base-bound}
-use Rattle.shape.proofs.skip.base_count.Statement.{statement}
-use Rattle.shape.proofs.skip.base_count.Tie as tie
+use Rattle.growth.specs.Length.{baseLength}
+use Rattle.growth.proofs.Lengths.{addedFrom, sum-row, sum-none, sum-out, base-none, base-starts, base-bound}
+use Rattle.growth.proofs.base_count.Statement.{statement}
+use Rattle.growth.proofs.base_count.Tie as tie
 
 abbrev Inv-loop : tie.InvT-loop
 Inv-loop s n rows length₀ k₀ length k = (k ≤ count s) × (baseLength s ≡ length + addedFrom s k)

@@ -22,7 +22,7 @@ use Rattle.rules.specs.Skip.{addedBy, added, adding, plainTest, skipFrom, skip,
 use Rattle.rules.proofs.Records.{recordAt, ops-length, ops-drop, ops-end}
 use Rattle.rules.proofs.Instructions.{tabulated}
 use Rattle.rules.proofs.Length.{onceOf, returnOf, added-kind, ones, returns, converted-counts, added-here}
-use Rattle.shape.specs.Length.{testKind, baseLength}
+use Rattle.growth.specs.Length.{testKind, baseLength}
 
 -- The row of the kind of the record after the first k, and what it adds.
 abbrev rowAt : List ℕ → ℕ → Option Row
