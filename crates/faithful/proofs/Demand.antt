@@ -41,7 +41,7 @@ placeOf L k =
     place (each (uncond C) 1 C) (place (each (unloop B) 1 B) (place (each (uncall (length A)) 1 A) k))
 
 then : {k k′ : ℕ} {L M N : List Op} {P Q : ℕ → ℕ} → Staged k L M P → Staged k′ M N Q → Staged k′ L N (λ i. Q (P i))
-then {Q} s t = record { sim = both (s .sim) (t .sim); good = t .good; starts = t .starts ∙ ap Q (s .starts); numbers = λ h. t .numbers (s .numbers h) }
+then {Q} s t = record { sim = both (s .sim) (t .sim); good = t .good; starts = t .starts ∙ ap Q (s .starts) }
 
 pub converted : (L : List Op) → skip L ≡ 0 → Staged 0 L (convert L) (placeOf L)
 unfolding convert placeOf

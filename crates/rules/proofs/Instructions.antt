@@ -1,5 +1,5 @@
 -- Instructions and their records.
---     Holds, FitAct, Fit     every number fits: an outside action is at most 999, any other number at most 9,999
+--     Holds, FitAct, Fit     every number fits: an outside action is 1 to 999, any other number at most 9,999
 --     Named, fit-named, fit-small     outside actions are at most 1,000; what fits is named, and its record's x and y fit two bytes
 --     decode-encode, decode-encodes     what was encoded is decoded
 --     tabulate, tabulated, kindOf, kindOf-in, kindOf-out, decode-kind     the kind of what was decoded, for every kind: a table by its entries
@@ -48,7 +48,7 @@ Holds A N (call k) = N k
 Holds A N return = Unit {0}
 
 abbrev pub FitAct : Act → Type 0
-FitAct (outside n) = n ≤ 999
+FitAct (outside n) = (1 ≤ n) × (n ≤ 999)
 FitAct (push y) = y ≤ 9999
 FitAct pop = Unit {0}
 FitAct (compare y) = y ≤ 9999
@@ -190,6 +190,7 @@ or-last true e = refl
 or-last false e = e
 
 record In (w : Row) (x y : ℕ) : Type 0 where
+  xlow : w .xmin ≤ x
   xhigh : x ≤ w .xmax
   yhigh : y ≤ w .ymax
 
@@ -197,15 +198,15 @@ in-row : (w : Row) (r : Rec) → inRow (some w) r ≡ true → In w (r .x) (r .y
 unfolding inRow
 in-row w r e =
     let p = four (leb (w .xmin) (r .x)) (leb (r .x) (w .xmax)) (leb (w .ymin) (r .y)) (leb (r .y) (w .ymax)) e in
-    record { xhigh = leb-true _ _ (p .1); yhigh = leb-true _ _ (p .3) }
+    record { xlow = leb-true _ _ (p .0); xhigh = leb-true _ _ (p .1); yhigh = leb-true _ _ (p .3) }
 
 -- x and y are those of the action they say, which fits.
 abbrev Acts : ℕ → ℕ → Type 0
 Acts x y = (xOf (actOf x y) ≡ x) × (yOf (actOf x y) ≡ y) × FitAct (actOf x y)
 
-acts-outside : (x y : ℕ) → x ≤ 999 → y ≤ 0 → Acts x y
+acts-outside : (x y : ℕ) → 1 ≤ x → x ≤ 999 → y ≤ 0 → Acts x y
 unfolding xOf yOf
-acts-outside x y h g = rw (act-outside x y (omega arith)) (refl, omega arith, h)
+acts-outside x y l h g = rw (act-outside x y (omega arith)) (refl, omega arith, (l, h))
 
 abbrev onStack : ℕ → ℕ → Bool
 onStack x y = (eqb x 1001 || eqb x 1003) && leb y 9999 || eqb x 1002 && eqb y 0
@@ -265,22 +266,22 @@ module _ (x y : ℕ) where
   each-row : Each 1 rows (written (actOf x y) x y)
   unfolding rows written encode
   each-row =
-      let a : (k : ℕ) → x ≤ 999 → y ≤ 0 → (actRec k (actOf x y) ≡ rec k x y) × FitAct (actOf x y) = λ k g h. acting k (acts-outside x y g h) in
+      let a : (k : ℕ) → 1 ≤ x → x ≤ 999 → y ≤ 0 → (actRec k (actOf x y) ≡ rec k x y) × FitAct (actOf x y) = λ k l g h. acting k (acts-outside x y l g h) in
       let f : (k : ℕ) → y ≤ 0 → rec k x 0 ≡ rec k x y = λ k h. same k refl (omega arith) in
       let b : (k : ℕ) → x ≤ 0 → y ≤ 0 → rec k 0 0 ≡ rec k x y = λ k g h. same k (omega arith) (omega arith) in
-      (λ i. a 1 (i .xhigh) (i .yhigh))
-      ⊗ (λ i. a 2 (i .xhigh) (i .yhigh))
-      ⊗ (λ i. a 3 (i .xhigh) (i .yhigh))
+      (λ i. a 1 (i .xlow) (i .xhigh) (i .yhigh))
+      ⊗ (λ i. a 2 (i .xlow) (i .xhigh) (i .yhigh))
+      ⊗ (λ i. a 3 (i .xlow) (i .xhigh) (i .yhigh))
       ⊗ (λ i. (f 4 (i .yhigh), i .xhigh))
       ⊗ (λ i. (f 5 (i .yhigh), omega (arith, i .xhigh)))
       ⊗ (λ i. (f 6 (i .yhigh), omega (arith, i .xhigh)))
       ⊗ (λ i. (refl, (omega (arith, i .xhigh), omega (arith, i .yhigh))))
-      ⊗ (λ i. a 8 (i .xhigh) (i .yhigh))
-      ⊗ (λ i. a 9 (i .xhigh) (i .yhigh))
+      ⊗ (λ i. a 8 (i .xlow) (i .xhigh) (i .yhigh))
+      ⊗ (λ i. a 9 (i .xlow) (i .xhigh) (i .yhigh))
       ⊗ (λ i. (b 10 (i .xhigh) (i .yhigh), tt))
       ⊗ (λ i. (b 11 (i .xhigh) (i .yhigh), tt))
-      ⊗ (λ i. a 12 (i .xhigh) (i .yhigh))
-      ⊗ (λ i. a 13 (i .xhigh) (i .yhigh))
+      ⊗ (λ i. a 12 (i .xlow) (i .xhigh) (i .yhigh))
+      ⊗ (λ i. a 13 (i .xlow) (i .xhigh) (i .yhigh))
       ⊗ (λ i. (b 14 (i .xhigh) (i .yhigh), tt))
       ⊗ (λ i. (f 15 (i .yhigh), i .xhigh))
       ⊗ (λ i. (b 16 (i .xhigh) (i .yhigh), tt))
