@@ -8,4 +8,5 @@ pub mod Fits
 pub mod Runs
 pub mod Refusals
 pub mod Cases
+pub mod Beside
 pub mod Table
