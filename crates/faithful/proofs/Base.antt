@@ -1,4 +1,5 @@
--- What conversion gives is accepted as a base, and read back from its bytes: its kinds are 1 to 4, its numbers fit their fields.
+-- An accepted file is that of its instructions. What conversion gives is accepted as a base, and read back from its bytes: its kinds are
+-- 1 to 4, its numbers fit their fields.
 -- From the stages, the length law and the laws of fields of `rules`.
 use mathlib.Core.Path.{_≡_, refl, ap, _∙_, subst}
 use Prim.Native.Nat.{_≤_}
@@ -7,6 +8,7 @@ use lib.ListN.{length-map}
 use lib.Dec.{leb·zero}
 use borrow.Author.Tests.{le-leb}
 use Rattle.rules.specs.Words.{ℕ, zero, suc, true, false, some, List, [], _∷_, map, getElem?}
+use Rattle.rules.specs.declared.Notation.{Notation}
 use Rattle.rules.specs.declared.Notation.the-variants.{Routine, Base}
 use Rattle.rules.specs.declared.Verdict.the-variants.{Accepted}
 use Rattle.rules.specs.Numbers.{at, names}
@@ -16,13 +18,13 @@ use Rattle.rules.specs.Checks.{most, listed}
 use Rattle.rules.specs.Convert.{convert}
 use Rattle.rules.proofs.Computes.{computes}
 use Rattle.rules.proofs.Records.{All}
-use Rattle.rules.proofs.Instructions.{FitAct, Fit, accepted-ops}
+use Rattle.rules.proofs.Instructions.{FitAct, Fit, Absolute, accepted-ops, accepted-records, accepted-file}
 use Rattle.rules.proofs.Length.{converted-length}
 use Rattle.rules.proofs.Fits.{stages-fit, fit-ops}
-use Rattle.faithful.specs.Promises.{Length, BaseAccepted}
+use Rattle.faithful.specs.Promises.{Encoded, Encodings, Length, BaseAccepted}
 use Rattle.faithful.proofs.Inner.Turns.{rank, Good}
 use Rattle.faithful.proofs.Demand.{converted}
-use Rattle.rules.proofs.Refusals.{admitted}
+use Rattle.rules.proofs.Refusals.{Fine, held, admitted}
 use Rattle.faithful.proofs.Accepted.{Proper, accepted}
 use Rattle.faithful.proofs.Inner.Places.{clash}
 
@@ -79,6 +81,14 @@ kind-of (end conditional) r = absurd (omega arith)
 kind-of (end loop) r = absurd (omega arith)
 kind-of (call k) r = absurd (omega arith)
 kind-of return r = absurd (omega arith)
+
+-- ## An accepted file is that of its instructions
+
+encoded : (nt : Notation) → Absolute nt → (f : List ℕ) → Fine nt f → Encoded f
+encoded nt a f h = record { its-records = accepted-records nt f (h .faultless) a; its-bytes = λ b. accepted-file nt f (h .faultless) a b (h .even) }
+
+pub encodings : Encodings
+encodings f n = (λ e. encoded Routine tt f (admitted f n e .fines), λ e. encoded Base tt f (held Base f n e .fines))
 
 pub base-length : Length
 base-length = converted-length
