@@ -25,7 +25,7 @@ use Rattle.rules.specs.Checks.{recordChecks}
 use Rattle.rules.specs.Skip.{skip, convertedLength}
 use Rattle.rules.specs.Convert.{convert}
 use Rattle.rules.specs.Stack.{top}
-use Rattle.rules.specs.Step.{Deed, ask, leap, enter, leave, Mem, noReplyLeft, logIsFull, perform, Reply, did, stops, Out, go, halt, agree, branch, leaving, does, stepAt, step}
+use Rattle.rules.specs.Step.{Deed, ask, leap, enter, leave, Mem, noReplyLeft, logIsFull, perform, Acted, did, stops, Out, go, halt, agree, branch, leaving, does, stepAt, step}
 use Rattle.rules.specs.Stack.{full}
 use Rattle.rules.specs.Run.{Run, oneMore, onward, run, startOf, freshMem, runs}
 use Rattle.rules.specs.Answers.{routineChecks, short, checkRecords, checkRoutine, filled, baseRecords, baseCount, converting, Converted, Call, ran, turnedAway, unless, noState, badReply, running, runRoutine, runBase}
@@ -47,7 +47,7 @@ stopper StackFull = true
 stopper Spent = false
 
 module _ (v : Bool) (t f : ℕ) where
-  tested : (b : Bool) (w : Status) (x : Reply) → stopper w ≡ true → ((u : Status) → branch v t f x ≡ halt u → stopper u ≡ true) → (u : Status) → branch v t f (cond b (stops w) x) ≡ halt u → stopper u ≡ true
+  tested : (b : Bool) (w : Status) (x : Acted) → stopper w ≡ true → ((u : Status) → branch v t f x ≡ halt u → stopper u ≡ true) → (u : Status) → branch v t f (cond b (stops w) x) ≡ halt u → stopper u ≡ true
   unfolding branch
   tested true w x h k u e = let z : w ≡ u = cc in rw (← z) h
   tested false w x h k u e = k u e
@@ -99,7 +99,7 @@ cond-in : (n : ℕ) (b : Bool) (x y : ℕ) → x ≤ n → y ≤ n → cond b x 
 cond-in n true x y h k = h
 cond-in n false x y h k = k
 
-branch-in : (n : ℕ) (v : Bool) (t f : ℕ) (x : Reply) (j : ℕ) (m₁ : Mem) → t ≤ n → f ≤ n → branch v t f x ≡ go j m₁ → j ≤ n
+branch-in : (n : ℕ) (v : Bool) (t f : ℕ) (x : Acted) (j : ℕ) (m₁ : Mem) → t ≤ n → f ≤ n → branch v t f x ≡ go j m₁ → j ≤ n
 unfolding branch
 branch-in n v t f (did r m) j m₁ h k e = let z : cond (agree v r) t f ≡ j = cc in rw z at (cond-in n (agree v r) t f h k)
 branch-in n v t f (stops w) j m₁ h k e = absurd (let z : _≡_ {A = ℕ} 0 1 = cc in omega arith)

@@ -135,6 +135,19 @@ Stepping =
     -- 9 comes before 10.
     × (stepRoutine (file (a 1 ∷ [])) (2 ∷ []) [] (start 2) .answer .outcome ≡ TurnedAway (Reply 1))
 
+-- ## Where demand 3 can say no more
+
+unfoldable pub Sharp : Type 0
+Sharp =
+    -- A routine of n = 1 records, and 2n + 1 times as many steps: ##R with nothing on the stack.
+    (runs (return ∷ []) [] [] 9 .steps ≡ 1)
+    × (runs (convert (return ∷ [])) [] [] 9 .steps ≡ 3)
+    -- The base's budget is above the count: under the count itself, here 0, a status 2 is still a 5.
+    × (map statusNumber (runs (a 1 ∷ []) [] [] 1 .status ∷ runs (convert (a 1 ∷ [])) [] [] 0 .status ∷ []) ≡ 2 ∷ 5 ∷ [])
+    -- Without refusal 6 it would not hold: on no `+a1; R##1` ends, and its lines ask again.
+    × (log (+a 1 ∷ call 1 ∷ []) (0 ∷ 0 ∷ []) ≡ 1 ∷ 0 ∷ replicate 8 0)
+    × (log (convert (+a 1 ∷ call 1 ∷ [])) (0 ∷ 0 ∷ []) ≡ 1 ∷ 0 ∷ 1 ∷ 0 ∷ replicate 6 0)
+
 -- ## What to write instead of a routine that is refused 6
 
 -- `+a1; R##5; a2; ##0; a3; ##R`, the block to write instead, and what is no help: a label between.

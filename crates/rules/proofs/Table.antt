@@ -6,7 +6,7 @@ use Rattle.rules.specs.declared.Status.the-variants.{Spent}
 use Rattle.rules.specs.Instruction.{jump}
 use Rattle.rules.specs.Run.{runs}
 use Rattle.rules.proofs.Cases.{Cases}
-use Rattle.rules.proofs.Beside.{Checking, Lowering, Running, Stepping, Advice, Incident}
+use Rattle.rules.proofs.Beside.{Checking, Lowering, Running, Stepping, Sharp, Advice, Incident}
 use Rattle.rules.proofs.Computes.{computes}
 
 for-ever : (budget : ℕ) → (runs (jump 1 ∷ []) [] [] budget .steps ≡ budget) × (runs (jump 1 ∷ []) [] [] budget .status ≡ Spent) × (runs (jump 1 ∷ []) [] [] budget .mem .logged ≡ 0)
@@ -33,6 +33,10 @@ running = (refl, refl, refl, refl, refl, refl, refl, refl, refl, refl)
 pub stepping : Stepping
 unfolding computes Stepping
 stepping = (refl, refl, refl, refl, refl, refl, refl, refl, refl, refl, refl, refl)
+
+pub sharp : Sharp
+unfolding computes Sharp
+sharp = (refl, refl, refl, refl, refl)
 
 pub incident : Incident
 unfolding computes Incident
