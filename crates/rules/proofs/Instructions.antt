@@ -13,23 +13,22 @@ use native.Mathlib.Nat.{add-zero, suc-add, add-suc, zero-add}
 use native.Mathlib.Numerals.{add-one}
 use native.Mathlib.Omega.{arith}
 use mathlib.Core.Bool.{Bool, true, false, cond, _&&_, _||_}
-use mathlib.Core.Option.{Option, none, some}
+use mathlib.Core.Option.{none, some}
 use mathlib.Core.List.{List, [], _∷_, _++_, map}
 use lib.ListN.{length, take, drop, getD, getElem?, length-drop, List·getD-map}
 use lib.Seq.{drop-cons, drop-drop}
 use lib.Dec.{eqb, leb}
 use borrow.Author.Tests.{leb-true, eqb-true, not-false, le-leb, lt-leb, ne-eqb}
 use Rattle.rules.specs.declared.Row.{Row}
-use Rattle.rules.specs.declared.Refusal.{Refusal}
 use Rattle.rules.specs.Record.{Rec, rec, recordBytes, bytesOf, count, recordOf, spareZero, recordsOf, records}
 use Rattle.rules.specs.declared.Notation.{Notation}
 use Rattle.rules.specs.declared.Notation.the-variants.{Routine, Base, Relative}
 use Rattle.rules.specs.Table.{rows, rowOf}
 use Rattle.rules.specs.Numbers.{at, names}
 use Rattle.rules.specs.Instruction.{Act, outside, push, pop, compare, conditional, loop, Op, act, test, jump, label, goto, goto2, header, separator, end, call, return, actOf, written, decode, xOf, yOf, actRec, encode, ops, file}
-use Rattle.rules.specs.Refusals.{when, orElse}
 use Rattle.rules.specs.Checks.{listed, kindFault, inRow, stackAction, hasStack, fieldFault, fault, faultFrom}
 use Rattle.rules.proofs.Records.{All, Bytes, bytes-drop, Small}
+use Rattle.rules.proofs.Refusals.{neither, when-none}
 
 -- ## Numbers that fit
 
@@ -333,16 +332,6 @@ accepted-fit nt h r e = accepted nt h r e .1
 
 -- ## A file without refusals 3 and 4
 
-neither : (a b : Option Refusal) → orElse a b ≡ none → (a ≡ none) × (b ≡ none)
-unfolding orElse
-neither none b e = (refl, e)
-neither (some r) b e = absurd (let z : _≡_ {A = ℕ} 0 1 = cc in omega arith)
-
-not-when : (b : Bool) (r : Refusal) → when b r ≡ none → b ≡ false
-unfolding when
-not-when true r e = absurd (let z : _≡_ {A = ℕ} 0 1 = cc in omega arith)
-not-when false r e = refl
-
 -- The record that the next eight bytes are has neither fault.
 pub record Faultless (nt : Notation) (s : List ℕ) : Type 0 where
   pub kinds : kindFault nt s ≡ false
@@ -350,7 +339,7 @@ pub record Faultless (nt : Notation) (s : List ℕ) : Type 0 where
 
 faultless : (nt : Notation) (i : ℕ) (s : List ℕ) → fault nt i s ≡ none → Faultless nt s
 unfolding fault
-faultless nt i s e = let p = neither _ _ e in record { kinds = not-when _ _ (p .0); fields = not-when _ _ (p .1) }
+faultless nt i s e = let p = neither _ _ e in record { kinds = when-none _ _ (p .0); fields = when-none _ _ (p .1) }
 
 pub no-fault-at : (nt : Notation) (i n : ℕ) (s : List ℕ) → faultFrom nt i n s ≡ none → (k : ℕ) → k < n → Faultless nt (drop (8 * k) s)
 unfolding faultFrom
