@@ -43,7 +43,7 @@ Checking =
     -- The lowest opener never closed; a second separator doesn't fit.
     × (checkRoutine (file (a 1 ∷ +a⟨ 1 ∷ +a⟨ 2 ∷ end conditional ∷ header loop true (outside 3) ∷ [])) ≡ Refused (Nesting 2))
     × (checkRoutine (file (+a⟨ 1 ∷ separator ∷ separator ∷ end conditional ∷ [])) ≡ Refused (Nesting 3))
-    -- 8 comes after 11.
+    -- 8 is also about the working buffer, and comes after 11.
     × (converting (file (call 1 ∷ [])) (file (a 1 ∷ a 1 ∷ [])) (file (a 1 ∷ [])) ≡ Refused Room)
     × (absoluting (bytesOf (rec 17 9999 0 ∷ [])) [] ≡ Refused (Far 1))
     -- 9 comes after the routine's checks 1 to 7 and the base's 1 to 4: a routine with fault 6, a base with fault 4, both with a bad reply.
@@ -64,7 +64,7 @@ Lowering =
     (convert (+a⟨ 1 ∷ a 2 ∷ end conditional ∷ a 3 ∷ []) ≡ -a 1 ∷ jump 0 ∷ a 2 ∷ jump 0 ∷ a 3 ∷ [])
     -- A return that is not the last record has the chain for n.
     × (convert (return ∷ a 1 ∷ []) ≡ test false (compare 2) ∷ jump 6 ∷ act pop ∷ jump 14 ∷ jump 14 ∷ test false (compare 1) ∷ jump 11 ∷ act pop ∷ jump 1 ∷ jump 13 ∷ jump 0 ∷ jump 13 ∷ jump 14 ∷ a 1 ∷ [])
-    -- Pushed numbers stay source numbers, though the records they name stand two places on.
+    -- Pushed numbers stay source numbers, though the records they name stand further on.
     × (convert (call 3 ∷ call 3 ∷ a 1 ∷ []) ≡ act (push 2) ∷ jump 5 ∷ act (push 3) ∷ jump 5 ∷ a 1 ∷ [])
     -- Pairs are found however deep they nest.
     × (nesting deep ≡ 0)
@@ -73,8 +73,8 @@ Lowering =
     -- ##3; a1; +a2 becomes forward 2, a1, +a2; ##k at k is forward 0, below it backward; ##0 is stop.
     × (toRelative (rec 4 3 0 ∷ rec 1 1 0 ∷ rec 2 2 0 ∷ []) ≡ rec 17 2 0 ∷ rec 1 1 0 ∷ rec 2 2 0 ∷ [])
     × (toRelative (rec 4 0 0 ∷ rec 4 2 0 ∷ rec 4 1 0 ∷ []) ≡ rec 19 0 0 ∷ rec 17 0 0 ∷ rec 18 2 0 ∷ [])
-    -- Back: backward k at k becomes ##0, below its place ##(i-k); stop becomes ##0; forward adds.
-    × (toAbsolute (rec 18 1 0 ∷ rec 18 1 0 ∷ rec 19 0 0 ∷ rec 17 2 0 ∷ []) ≡ rec 4 0 0 ∷ rec 4 1 0 ∷ rec 4 0 0 ∷ rec 4 6 0 ∷ [])
+    -- Back: backward k at i becomes ##0 where k = i or k > i, else ##(i-k); stop becomes ##0; forward k becomes ##(k+i).
+    × (toAbsolute (rec 18 1 0 ∷ rec 18 9 0 ∷ rec 18 1 0 ∷ rec 19 0 0 ∷ rec 17 2 0 ∷ []) ≡ rec 4 0 0 ∷ rec 4 0 0 ∷ rec 4 2 0 ∷ rec 4 0 0 ∷ rec 4 7 0 ∷ [])
     -- Forward 9,998 reaches 9,999 at place 1, and at place 2 is refused 11.
     × (absoluting (bytesOf (rec 17 9998 0 ∷ [])) (replicate 8 0) ≡ Accepted 1)
     × (absoluting (bytesOf (rec 17 9998 0 ∷ rec 17 9998 0 ∷ [])) (replicate 16 0) ≡ Refused (Far 2))
