@@ -1,13 +1,11 @@
--- The text of an action by x, of an instruction by its kind, and of a refusal by its number and place.
+-- The text of an action by x, and of an instruction by its kind.
 use mathlib.Core.Path.{_≡_}
 use Prim.Native.Nat.{ℕ}
 use mathlib.Core.List.{_++_}
 use borrow.Author.Tests.{eq-eqb, ne-eqb}
-use Rattle.rules.specs.declared.Refusal.{Refusal}
-use Rattle.rules.specs.Refusals.{told}
 use Rattle.rules.specs.Record.{rec}
 use Rattle.rules.specs.Instruction.{actOf}
-use Rattle.listing.specs.Text.{ascii, named, action, sign, instruction, refusedAt, refused}
+use Rattle.words.specs.Text.{ascii, named, action, sign, instruction}
 
 module _ (x y : ℕ) where
   pub action-push : x ≡ 1001 → action (actOf x y) ≡ named "push(" y ++ ascii ")"
@@ -42,7 +40,3 @@ module _ (x y : ℕ) where
     pub instruction-bare : ¬ (k ≡ 2) → ¬ (k ≡ 3) → ¬ (k ≡ 4) → instruction (rec k x y) ≡ action (actOf x y)
     unfolding instruction sign
     instruction-bare a b c = rw (ne-eqb k 4 c, ne-eqb k 2 a, ne-eqb k 3 b)
-
-pub refused-is : (r : Refusal) {n p : ℕ} → n ≡ told r .number → p ≡ told r .place → refusedAt n p ≡ refused r
-unfolding refused
-refused-is r n p = rw (n, p)

@@ -10,7 +10,7 @@ use mathlib.Core.List.{List, [], _∷_, _++_}
 use lib.ListN.{length, length-append}
 use lib.Dec.{ltb}
 use borrow.Author.Tests.{lt-ltb, le-ltb, ltb-true, ltb-false}
-use Rattle.listing.specs.Text.{digit, digits, decimal}
+use Rattle.words.specs.Text.{digit, digits, decimal}
 
 -- any bound above the number does
 bounds : (j k n : ℕ) → n < j → n < k → digits j n ≡ digits k n
