@@ -19,7 +19,7 @@ use Rattle.rules.proofs.Length.{converted-length}
 use Rattle.rules.proofs.Refusals.{refused-then, accepted-then, admitted}
 use Rattle.records.specs.Writing.{Wrote}
 use Rattle.records.proofs.Writing.{filled-by, wrote-length}
-use Rattle.shape.specs.Length.{baseLength}
+use Rattle.growth.specs.Length.{baseLength}
 
 module _ {s o w : List ℕ} where
   pub turned-away : {r : Refusal} → converting s o w ≡ Refused r → Converted s o w (Refused r) o w

@@ -1,9 +1,9 @@
 // A routine lowered to its base: the four stages in their order, and the call that converts.
+use growth::base_count;
 use places::Stage;
 use records::clear;
 use rules::Refusal;
 use rules::Verdict;
-use shape::base_count;
 use shape::check_routine;
 use stages::expand;
 ghost use mathlib.Core.Path.{_≡_};
