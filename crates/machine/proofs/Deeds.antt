@@ -13,7 +13,7 @@ use Rattle.rules.specs.Numbers.{at, past, names, moveTo}
 use Rattle.rules.specs.Instruction.{outside, push, pop, compare, loop, actOf, Op, written, decode, ops}
 use Rattle.rules.specs.Partners.{endOf, separatorOf}
 use Rattle.rules.specs.Stack.{popped, top}
-use Rattle.rules.specs.Step.{Mem, Out, go, halt, withStack, Reply, did, stops, perform, agree, branch, leaving, does, deed, ask, stepAt, step}
+use Rattle.rules.specs.Step.{Mem, Out, go, halt, withStack, Acted, did, stops, perform, agree, branch, leaving, does, deed, ask, stepAt, step}
 use Rattle.rules.proofs.Records.{recordAt, ops-length, ops-at}
 use Rattle.records.specs.Reading.{recAt}
 use Rattle.records.proofs.Reading.{rec-at}
@@ -31,7 +31,7 @@ landed n (go k m) = go (moveTo n k) m
 landed n (halt w) = halt w
 
 module _ (n : ℕ) (m : Mem) where
-  land-branch : (v : Bool) (t f : ℕ) (r : Reply) → branch v (moveTo n t) (moveTo n f) r ≡ landed n (branch v t f r)
+  land-branch : (v : Bool) (t f : ℕ) (r : Acted) → branch v (moveTo n t) (moveTo n f) r ≡ landed n (branch v t f r)
   unfolding branch landed
   land-branch v t f (did b m′) = by (agree v b)
     where
@@ -41,7 +41,7 @@ module _ (n : ℕ) (m : Mem) where
   land-branch v t f (stops w) = refl
 
   -- On the other sign yes and no are exchanged.
-  exchanged : (t f : ℕ) (r : Reply) → branch false t f r ≡ branch true f t r
+  exchanged : (t f : ℕ) (r : Acted) → branch false t f r ≡ branch true f t r
   unfolding branch agree
   exchanged t f (did true m′) = refl
   exchanged t f (did false m′) = refl
