@@ -4,8 +4,9 @@ import sys
 from pathlib import Path
 
 HERE = Path(__file__).resolve().parent
+sys.dont_write_bytecode = True
 sys.path.insert(0, str(HERE.parents[1] / "examples"))
-from make import record, routine  # the paper's notation as bytes; also writes the examples anew
+from make import record, routine  # the paper's notation as bytes
 
 RELATIVE = {"forward": 17, "backward": 18, "stop": 19}
 CALLS = ["check", "convert", "list", "relative", "absolute", "run", "base", "loop_end", "loop_header", "end", "header",

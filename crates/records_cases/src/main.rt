@@ -13,6 +13,14 @@ fn number(n: usize) {
     io::print_decimal(STDOUT_FILENO, n as u64);
 }
 
+// The first n bytes; all where there are fewer.
+fn part(s: &[u8], n: usize) -> &[u8] {
+    if s.len() < n {
+        return s;
+    }
+    &s[..n]
+}
+
 // What was tried, and what was answered. Two numbers and a word have at most 50 bytes.
 fn verdict(tried: &[u8], verdict: Verdict) {
     let mut text = [0u8; 50];
@@ -20,14 +28,6 @@ fn verdict(tried: &[u8], verdict: Verdict) {
     word(tried);
     word(b": ");
     word(part(&text, n));
-}
-
-// The first n bytes; all where there are fewer.
-fn part(s: &[u8], n: usize) -> &[u8] {
-    if s.len() < n {
-        return s;
-    }
-    &s[..n]
 }
 
 // 0 where the file is accepted, else the refusal's number.
@@ -40,10 +40,7 @@ fn refusal(verdict: Verdict) -> usize {
 
 // The answer to the first n bytes.
 fn first(notation: Notation, s: &[u8], n: usize) -> Verdict {
-    if s.len() < n {
-        return Verdict::Accepted(0);
-    }
-    check_records(notation, &s[..n])
+    check_records(notation, part(s, n))
 }
 
 // Files of 0 to 17 bytes, all zero.
