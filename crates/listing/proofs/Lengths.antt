@@ -25,7 +25,7 @@ Narrow r = (r .x ≤ 9999) × (r .y ≤ 9999)
 
 act-narrow : (k : ℕ) (a : Act) → FitAct a → Narrow (actRec k a)
 unfolding xOf yOf
-act-narrow k (outside n) h = omega arith
+act-narrow k (outside n) h = omega (arith, h .1)
 act-narrow k (push y) h = omega arith
 act-narrow k pop h = omega arith
 act-narrow k (compare y) h = omega arith

@@ -10,13 +10,14 @@ use words::put_named;
 use words::put_number;
 use words::put_word;
 ghost use mathlib.Core.Path.{_≡_};
-ghost use mathlib.Core.List.{[], _∷_};
+ghost use mathlib.Core.List.{[], _∷_, _++_};
 ghost use Prim.Native.Nat.{_≤_};
 ghost use lib.ListN.{length};
 ghost use Rattle.rules.specs.Record.{rec, records};
 ghost use Rattle.rules.specs.Refusals.{told, verdict};
+ghost use Rattle.words.specs.Text.{ascii, decimal, named};
 ghost use Rattle.words.specs.Printing.{Printed};
-ghost use Rattle.listing.specs.Text.{line, lines, listing, textOf, refused, refusedAt};
+ghost use Rattle.listing.specs.Text.{line, lines, listing, textOf, refused};
 ghost use Rattle.listing.specs.Answers.{roomFor, listingOf, Listed, Line};
 
 // Number and instruction.
@@ -50,15 +51,22 @@ fn put_lines(base: &[u8], text: &mut [u8]) -> usize
     at
 }
 
+// A word and two numbers, on a line.
+fn put_numbers(word: &[u8], first: usize, second: usize, text: &mut [u8]) -> usize
+    ensures { λ r. ⌜ Printed (now (word .entry) ++ decimal first ++ named " " second ++ ascii "\n") (now (text .entry)) (now (text .exit)) r ⌝ }
+{
+    let mut at = put_named(word, first, text);
+    at += put_named(b" ", second, &mut text[at..]);
+    at += put_word(b"\n", &mut text[at..]);
+    at
+}
+
 // `length`, source count and converted count; then the lines.
 fn put_listing(n: usize, base: &[u8], text: &mut [u8]) -> usize
     ensures { λ r. ⌜ Printed (listing n (records (now (base .entry)))) (now (text .entry)) (now (text .exit)) r ⌝ }
 {
-    let mut at = put_named(b"length ", n, text);
-    at += put_named(b" ", base.len() / 8, &mut text[at..]);
-    at += put_word(b"\n", &mut text[at..]);
-    at += put_lines(base, &mut text[at..]);
-    at
+    let at = put_numbers(b"length ", n, base.len() / 8, text);
+    at + put_lines(base, &mut text[at..])
 }
 
 // The paper's number of a refusal.
@@ -99,23 +107,18 @@ pub fn place_of(refusal: Refusal) -> usize
     }
 }
 
-// `refused`, number, place.
-fn put_refused(number: usize, place: usize, text: &mut [u8]) -> usize
-    ensures { λ r. ⌜ Printed (refusedAt number place) (now (text .entry)) (now (text .exit)) r ⌝ }
-{
-    let mut at = put_named(b"refused ", number, text);
-    at += put_named(b" ", place, &mut text[at..]);
-    at += put_word(b"\n", &mut text[at..]);
-    at
-}
-
-// The line of a refusal, and how many bytes it has. A text that is too short is left as it is, with 0.
+// The line of a refusal, `refused`, number, place, and how many bytes it has. A text that is too short is left as it is, with 0.
 pub fn refused_line(refusal: Refusal, text: &mut [u8]) -> usize
     ensures { λ r. ⌜ Line (refused refusal) (now (text .entry)) r (now (text .exit)) ⌝ }
 {
     // Two numbers of at most 20 digits each.
     let mut line = [0u8; 50];
-    let length = put_refused(number_of(refusal), place_of(refusal), &mut line);
+    let length = put_numbers(
+        b"refused ",
+        number_of(refusal),
+        place_of(refusal),
+        &mut line,
+    );
     if text.len() < length {
         return 0;
     }

@@ -55,7 +55,7 @@ module _ {rs : List Rec} {o w : List ℕ} {at : ℕ} (v : Fitted rs o w at) wher
   fit-all h = let e : fitting rs o ≡ rs = take-all (count o) rs (omega arith) in record { count = v .answers ∙ rw e; holds = v .holds ∙ rw e }
 
   left : count (rest w at) ≡ count o - length (fitting rs o)
-  left = rw (length-take, length-drop) (omega (arith, fit-sizes))
+  left = rw (length-take (length w - at) (drop at w), length-drop at w) (omega (arith, fit-sizes))
 
   both : (g : List Rec) → fitting (rs ++ g) o ≡ fitting rs o ++ fitting g (rest w at)
   both g = by (leb (length rs) (count o)) refl

@@ -83,7 +83,7 @@ module _ {t o w : List ℕ} {at : ℕ} (v : Printed t o w at) where
   print-all h = let e : fitting t o ≡ t = take-all (length o) t h in record { count = v .answers ∙ ap length e; holds = v .holds ∙ rw e }
 
   left : length (rest w at) ≡ length o - length (fitting t o)
-  left = rw (length-take, length-drop) (omega (arith, print-sizes))
+  left = rw (length-take (length w - at) (drop at w), length-drop at w) (omega (arith, print-sizes))
 
   both : (u : List ℕ) → fitting (t ++ u) o ≡ fitting t o ++ fitting u (rest w at)
   both u = by (leb (length t) (length o)) refl

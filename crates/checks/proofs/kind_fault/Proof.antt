@@ -1,7 +1,7 @@
 use mathlib.Core.Path.{_≡_, sym, ap, _∙_}
 use Prim.Native.Nat.{ℕ, _*_}
 use borrow.Author.Needs.{needs}
-use mathlib.Core.Bool.{Bool, true, false, not, _&&_}
+use mathlib.Core.Bool.{Bool, not, _&&_}
 use mathlib.Core.List.{List}
 use lib.ListN.{drop, getD}
 use Rattle.rules.specs.declared.Notation.{Notation}
@@ -21,9 +21,6 @@ pub kind-fault-spec : {M : Type 1} → statement M
 kind-fault-spec =
     tie.close
     (tie.spec
-    (λ c. search needs)
-    (λ c. search needs)
-    (λ c κs. search needs)
-    (λ c κs. search needs)
+    (λ c. search needs) (λ c. search needs) (λ c κs. search needs) (λ c κs. search needs)
     (λ c. let a = c .before .before .before .before .before .args in ap not (c .spare-zero .ensures) ∙ fault-is _ (a .s .now) (a .k) (c .before .before .is-listed .ensures) (c .before .if1 .taken))
     (λ c. let a = c .before .before .before .before .args in fault-is _ (a .s .now) (a .k) (c .before .is-listed .ensures) (c .if1 .left)))

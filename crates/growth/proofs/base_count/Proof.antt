@@ -1,9 +1,8 @@
 -- The length so far and what the records left add make the whole, so that none of the sums is above it.
-use mathlib.Core.Path.{_≡_, sym, ap, _∙_}
+use mathlib.Core.Path.{_≡_, sym, _∙_}
 use Prim.Native.Nat.{_+_, _-_, _*_, _≤_}
 use native.Mathlib.Omega.{arith}
 use mathlib.Core.Bool.{true}
-use mathlib.Core.Option.{some}
 use mathlib.Core.Logic.{⊎-elim}
 use borrow.Author.Needs.{needs}
 use lib.ListN.{getD}
@@ -58,9 +57,7 @@ base-count-spec =
     (λ c. sym (base-none _ (c .if1 .taken)))
     (λ c κs. search needs)
     (λ c. (omega arith, base-starts _ (c .before .if1 .left)))
-    (λ c. omega arith)
-    (λ c. omega arith)
-    (λ c κs. search needs)
+    (λ c. omega arith) (λ c. omega arith) (λ c κs. search needs)
     (λ c. omega (arith, routine-within _ (kind-listed c)))
     (λ c. omega (arith, routine-above _ (kind-listed c)))
     (λ c. omega (arith, routine-within _ (kind-listed c)))
@@ -68,7 +65,6 @@ base-count-spec =
     (λ c. omega (arith, small (c .before .before)))
     (λ c. omega (arith, small (c .before .before .before)))
     (λ c. omega (arith, small (c .before .before .before)))
-    (λ c. omega arith)
-    (λ c. omega arith)
+    (λ c. omega arith) (λ c. omega arith)
     loop-again
     (λ c. omega (arith, c .before .loop .inv .1, sum-out (c .before .before .before .before .before .args .s .now) (c .before .loop .k) (c .loop-test .left))))

@@ -8,9 +8,7 @@ is-listed-spec =
     tie.close
     (tie.spec
     (λ c. no-kind _ _ (c .if1 .taken))
-    (λ c. search needs)
-    (λ c. search needs)
-    (λ c. search needs)
+    (λ c. search needs) (λ c. search needs) (λ c. search needs)
     (λ c. of-routine _ _ (c .before .before .if1 .left) (c .enum-told .given .1))
     (λ c. of-base _ _ (c .before .before .if1 .left) (c .enum-told2 .given .1))
     (λ c. low _ _ (c .before .before .before .if1 .left) (c .before .enum-told3 .given .1) (c .if2 .taken))

@@ -8,8 +8,7 @@ pub check-routine-spec : {M : Type 1} → statement M
 check-routine-spec =
     tie.close
     (tie.spec
-    (λ c κs. search needs)
-    (λ c. search needs)
+    (λ c κs. search needs) (λ c. search needs)
     (λ c κs. sym (c .before .before .before .check-records .ensures) ∙ c .before .verdict .given .1)
     (λ c. search needs)
     (λ c. c .check-shape .ensures)

@@ -1,16 +1,13 @@
 use native.Mathlib.Omega.{arith}
 use borrow.Author.Needs.{needs}
-use Rattle.listing.specs.Text.{refusedAt}
 use Rattle.words.proofs.Printing.{print-sizes, print-more}
-use Rattle.listing.proofs.put_refused.Statement.{statement}
-use Rattle.listing.proofs.put_refused.Tie as tie
+use Rattle.listing.proofs.put_numbers.Statement.{statement}
+use Rattle.listing.proofs.put_numbers.Tie as tie
 
-pub put-refused-spec : {M : Type 1} → statement M
-unfolding refusedAt
-put-refused-spec =
+pub put-numbers-spec : {M : Type 1} → statement M
+put-numbers-spec =
     tie.close
     (tie.spec
-    (λ c. search needs)
     (λ c κs. search needs)
     (λ c. search needs)
     (λ c. omega (arith, print-sizes (c .before .before .before .put-named .ensures)))

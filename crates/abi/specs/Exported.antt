@@ -9,7 +9,7 @@ use Rattle.rules.specs.declared.Outcome.the-variants.{Stopped, TurnedAway}
 use Rattle.rules.specs.declared.State.{State}
 use Rattle.rules.specs.declared.Ran.{Ran}
 use Rattle.rules.specs.Record.{Rec}
-use Rattle.rules.specs.Refusals.{Told, told}
+use Rattle.rules.specs.Refusals.{told}
 use Rattle.rules.specs.Run.{statusNumber}
 use Rattle.rules.specs.Answers.{filled, cleared, baseRecords, converting, Call}
 use Rattle.listing.specs.Text.{textOf}
