@@ -19,16 +19,8 @@ read-full-spec =
     Inv-loop
     μ-loop
     (λ c. (omega arith, refl))
-    (λ c. omega arith)
-    (λ c. omega arith)
-    (λ c. search needs)
-    (λ c κs. search needs)
-    (λ c. search needs)
-    (λ c. search needs)
-    (λ c. search needs)
-    (λ c. search needs)
-    (λ c. search needs)
-    (λ c. omega arith)
+    (λ c. omega arith) (λ c. omega arith) (λ c. search needs) (λ c κs. search needs) (λ c. search needs)
+    (λ c. search needs) (λ c. search needs) (λ c. search needs) (λ c. search needs) (λ c. omega arith)
     (λ c. omega (arith, rw (c .before .before .input .given .1) at (c .before .before .before .before .before .before .read .ensures)))
     (λ c. omega (arith, rw (c .before .before .input .given .1) at (c .before .before .before .before .before .before .read .ensures)))
     (λ c. (omega (arith, rw (c .before .before .input .given .1) at (c .before .before .before .before .before .before .read .ensures)), search needs))

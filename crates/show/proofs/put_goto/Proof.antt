@@ -11,17 +11,11 @@ unfolding written
 put-goto-spec =
     tie.close
     (tie.spec
-    (λ c. search needs)
-    (λ c κs. search needs)
-    (λ c. search needs)
-    (λ c κs. search needs)
-    (λ c. search needs)
-    (λ c κs. search needs)
-    (λ c. search needs)
+    (λ c. search needs) (λ c κs. search needs) (λ c. search needs) (λ c κs. search needs) (λ c. search needs)
+    (λ c κs. search needs) (λ c. search needs)
     (λ c. omega (arith, print-sizes (c .before .before .before .put-named .ensures)))
     (λ c. omega (arith, print-sizes (c .before .before .before .put-named .ensures)))
-    (λ c. search needs)
-    (λ c κs. search needs)
+    (λ c. search needs) (λ c κs. search needs)
     (λ c. omega (arith, print-sizes (print-more (c .before .before .before .before .before .before .before .put-named .ensures) (c .before .before .put-label3 .ensures))))
     (λ c. search needs)
     (λ c. print-as (row _ _ {k = 5} (c .before .before .before .before .before .match .keys1)) (c .before .before .put-label .ensures))

@@ -18,12 +18,7 @@ print-replies-spec =
     Inv-loop
     μ-loop
     (λ c. tt)
-    (λ c. search needs)
-    (λ c. omega arith)
-    (λ c κs. search needs)
-    (λ c. search needs)
-    (λ c κs. search needs)
-    (λ c. omega arith)
-    (λ c. omega arith)
+    (λ c. search needs) (λ c. omega arith) (λ c κs. search needs) (λ c. search needs) (λ c κs. search needs)
+    (λ c. omega arith) (λ c. omega arith)
     (λ c. tt)
     (λ c. search needs))

@@ -17,8 +17,6 @@ print-records-spec =
     Inv-loop
     μ-loop
     (λ c. tt)
-    (λ c. omega arith)
-    (λ c κs. search needs)
-    (λ c. omega arith)
+    (λ c. omega arith) (λ c κs. search needs) (λ c. omega arith)
     (λ c. tt)
     (λ c. search needs))

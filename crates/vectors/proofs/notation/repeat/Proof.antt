@@ -33,13 +33,9 @@ repeat-spec =
     Inv-loop
     μ-loop
     (λ c. (omega arith, refl))
-    (λ c. omega arith)
-    (λ c. omega arith)
-    (λ c. search needs)
-    (λ c κs. search needs)
+    (λ c. omega arith) (λ c. omega arith) (λ c. search needs) (λ c κs. search needs)
     (λ c. omega (arith, room (c .before .before .put-record .ensures)))
-    (λ c. omega arith)
-    (λ c. omega arith)
+    (λ c. omega arith) (λ c. omega arith)
     (λ c. (omega (arith, room (c .before .before .put-record .ensures)), search needs))
     (λ c. c .before .loop .inv .1)
     (λ c. omega arith))
