@@ -4,17 +4,9 @@ use mathlib.Core.Path.{_≡_}
 use denote.Ref.{now}
 use Rattle.listing.proofs.list.Reads as list
 use Rattle.listing.proofs.refused_line.Reads as refused-line
-use Rattle.listing.proofs.number_of.Reads as number-of
-use Rattle.listing.proofs.place_of.Reads as place-of
 
 list-once : (κs : _) (a : _) (r r′ : _) (e e′ : _) → list.Learnt κs a r e → list.Learnt κs a r′ e′ → (r ≡ r′) × (now (e .1 .0) ≡ now (e′ .1 .0))
 list-once κs a r r′ e e′ p q = (cc, cc)
 
 refused-line-once : (κs : _) (a : _) (r r′ : _) (e e′ : _) → refused-line.Learnt κs a r e → refused-line.Learnt κs a r′ e′ → (r ≡ r′) × (now (e .1 .0) ≡ now (e′ .1 .0))
 refused-line-once κs a r r′ e e′ p q = (cc, cc)
-
-number-of-once : (κs : _) (a : _) (r r′ : _) (e e′ : _) → number-of.Learnt κs a r e → number-of.Learnt κs a r′ e′ → r ≡ r′
-number-of-once κs a r r′ e e′ p q = cc
-
-place-of-once : (κs : _) (a : _) (r r′ : _) (e e′ : _) → place-of.Learnt κs a r e → place-of.Learnt κs a r′ e′ → r ≡ r′
-place-of-once κs a r r′ e e′ p q = cc

@@ -3,6 +3,8 @@ use lower::convert;
 use records::kind_at;
 use records::x_at;
 use records::y_at;
+pub use refusals::number_of;
+pub use refusals::place_of;
 use rules::Refusal;
 use rules::Verdict;
 use words::put_instruction;
@@ -14,7 +16,7 @@ ghost use mathlib.Core.List.{[], _∷_, _++_};
 ghost use Prim.Native.Nat.{_≤_};
 ghost use lib.ListN.{length};
 ghost use Rattle.rules.specs.Record.{rec, records};
-ghost use Rattle.rules.specs.Refusals.{told, verdict};
+ghost use Rattle.rules.specs.Refusals.{verdict};
 ghost use Rattle.words.specs.Text.{ascii, decimal, named};
 ghost use Rattle.words.specs.Printing.{Printed};
 ghost use Rattle.listing.specs.Text.{line, lines, listing, textOf, refused};
@@ -67,44 +69,6 @@ fn put_listing(n: usize, base: &[u8], text: &mut [u8]) -> usize
 {
     let at = put_numbers(b"length ", n, base.len() / 8, text);
     at + put_lines(base, &mut text[at..])
-}
-
-// The paper's number of a refusal.
-pub fn number_of(refusal: Refusal) -> usize
-    ensures { λ r. ⌜ r ≡ told refusal .number ⌝ }
-{
-    match refusal {
-        Refusal::Ragged => 1,
-        Refusal::Long => 2,
-        Refusal::Kind(_) => 3,
-        Refusal::Field(_) => 4,
-        Refusal::Nesting(_) => 5,
-        Refusal::Skip(_) => 6,
-        Refusal::Growth => 7,
-        Refusal::Room => 8,
-        Refusal::Reply(_) => 9,
-        Refusal::State => 10,
-        Refusal::Far(_) => 11,
-    }
-}
-
-// Its place: of a record, or of a reply byte, from 1; else 0.
-pub fn place_of(refusal: Refusal) -> usize
-    ensures { λ r. ⌜ r ≡ told refusal .place ⌝ }
-{
-    match refusal {
-        Refusal::Ragged => 0,
-        Refusal::Long => 0,
-        Refusal::Kind(place) => place,
-        Refusal::Field(place) => place,
-        Refusal::Nesting(place) => place,
-        Refusal::Skip(place) => place,
-        Refusal::Growth => 0,
-        Refusal::Room => 0,
-        Refusal::Reply(place) => place,
-        Refusal::State => 0,
-        Refusal::Far(place) => place,
-    }
 }
 
 // The line of a refusal, `refused`, number, place, and how many bytes it has. A text that is too short is left as it is, with 0.

@@ -1,12 +1,13 @@
 -- The checks of a call one after another: what is refused, and what is then known of an accepted file.
 use mathlib.Core.Path.{_≡_, refl, sym, ap, _∙_}
-use Prim.Native.Nat.{ℕ, zero, suc, _≤_}
+use Prim.Native.Nat.{ℕ, _-_, _≤_, _<_}
 use native.Mathlib.Omega.{arith}
 use mathlib.Core.Bool.{Bool, true, false, not, _&&_}
 use mathlib.Core.Option.{Option, none, some}
 use mathlib.Core.List.{List, [], _∷_, _++_, append-assoc}
+use lib.ListN.{take}
 use lib.Dec.{leb}
-use borrow.Author.Tests.{leb-true}
+use borrow.Author.Tests.{leb-true, leb-false, lt-leb}
 use Rattle.rules.specs.declared.Refusal.{Refusal}
 use Rattle.rules.specs.declared.Refusal.the-variants.{Reply}
 use Rattle.rules.specs.declared.Refusal.the-variants as refusal
@@ -15,28 +16,30 @@ use Rattle.rules.specs.declared.Verdict.the-variants.{Accepted, Refused}
 use Rattle.rules.specs.declared.Notation.the-variants.{Base}
 use Rattle.rules.specs.declared.Ran.{Ran}
 use Rattle.rules.specs.declared.State.{State}
-use Rattle.rules.specs.Record.{count}
+use Rattle.rules.specs.Record.{Rec, count, records}
+use Rattle.rules.specs.Numbers.{names, moveTo}
 use Rattle.rules.specs.Instruction.{ops}
+use Rattle.rules.specs.Table.{rows, rowOf}
 use Rattle.rules.specs.Refusals.{when, whenAt, orElse, first, verdictOf, verdict}
-use Rattle.rules.specs.Checks.{most}
-use Rattle.rules.specs.Run.{run, runs}
-use Rattle.rules.specs.Answers.{Called, checkRecords, checkRoutine, badReply, sound, unless, turnedAway, noState, running, ran, stepping, memAt, entriesSound}
+use Rattle.rules.specs.Checks.{most, inRow, stackAction, hasStack, fieldFault, faultFrom}
+use Rattle.rules.specs.Run.{startOf, freshMem, run, runs}
+use Rattle.rules.specs.Answers.{Called, checkRecords, checkRoutine, badReply, sound, unless, turnedAway, noState, running, ran, stepping, memAt}
+use Rattle.rules.proofs.Records.{at-none, all-getD, records-length, records-getD, ops-length}
+use Rattle.rules.proofs.Instructions.{no-faults}
 use Rattle.rules.proofs.Refusals.{first-append, when-none, held, admitted}
-use Rattle.machine.specs.Checking.{withReplies, withState, Counted}
+use Rattle.records.specs.Reading.{recAt}
+use Rattle.records.proofs.Reading.{rec-at}
+use Rattle.stack.proofs.Moves.{named, names-leb, move-in}
+use Rattle.ways.specs.Places.{placeAt}
+use Rattle.ways.proofs.Places.{place-below}
+use Rattle.deeds.specs.Deeds.{placeIn}
+use Rattle.states.specs.States.{withReplies, withState, awayWith}
+use Rattle.machine.specs.Running.{freshAt, Right}
 
 first-one : (c : Option Refusal) → first (c ∷ []) ≡ c
 unfolding first orElse
 first-one none = refl
 first-one (some r) = refl
-
-pub when-at : (k j : ℕ) → k ≡ j → ¬ (k ≡ 0) → whenAt Reply j ≡ some (Reply k)
-unfolding whenAt
-when-at k zero e h = absurd (h e)
-when-at k (suc j) e h = rw e
-
-pub when-zero : (k j : ℕ) → k ≡ j → k ≡ 0 → whenAt Reply j ≡ none
-unfolding whenAt
-when-zero k j e h = rw (← e, h)
 
 -- One check more.
 module _ (cs : List (Option Refusal)) (n : ℕ) where
@@ -83,20 +86,15 @@ module _ (checks : List (Option Refusal)) (s replies : List ℕ) where
     unfolding verdict
     run-verdict = q ∙ rw p (with-replies checks (count s) replies)
 
-    pub run-accepted : (k : ℕ) → w ≡ Accepted k → (first runChecks ≡ none) × (k ≡ count s)
-    run-accepted k e = accepted (first runChecks) (count s) k (sym run-verdict ∙ e)
+    module _ (log : List ℕ) (budget : ℕ) (m : State) (a : Ran) where
+      pub run-refused : (r : Refusal) → w ≡ Refused r → m ≡ freshAt 0 → a ≡ awayWith r m → Called (running checks s replies log budget) a log
+      unfolding running unless turnedAway noState
+      run-refused r e f h = rw (refused (first runChecks) (count s) r (sym run-verdict ∙ e)) (record { answers = h ∙ rw f; logs = refl })
 
-    module _ (log : List ℕ) (budget : ℕ) where
-      pub run-refused : (r : Refusal) → w ≡ Refused r → (from : State) → from ≡ noState
-          → (a : Ran) → ((l : List ℕ) → a ≡ turnedAway r from l .answer) → Called (running checks s replies log budget) a log
-      unfolding running unless turnedAway
-      run-refused r e from f a h =
-          rw (refused (first runChecks) (count s) r (sym run-verdict ∙ e)) (record { answers = h log ∙ rw f; logs = refl })
-
-      pub run-called : (k : ℕ) → w ≡ Accepted k → (a : Ran) (log′ : List ℕ)
-          → Called (ran (runs (ops s) replies log budget)) a log′ → Called (running checks s replies log budget) a log′
-      unfolding running unless
-      run-called k e a log′ h = rw (run-accepted k e .0) h
+      pub run-called : (k : ℕ) → w ≡ Accepted k → m ≡ freshAt 1 → (log′ : List ℕ)
+          → Called (ran (run (ops s) budget (moveTo (count s) (m .at)) (memAt m replies log))) a log′ → Called (running checks s replies log budget) a log′
+      unfolding running unless runs startOf freshMem memAt
+      run-called k e f log′ h = rw (accepted (first runChecks) (count s) k (sym run-verdict ∙ e) .0, ops-length s) (rw f at h)
 
   module _ (m : State) (v w z : Verdict) (p : v ≡ verdict checks (count s)) (q : w ≡ withReplies v replies) (o : z ≡ withState w m) where
     step-verdict : z ≡ verdictOf (first (stepChecks m)) (count s)
@@ -107,59 +105,72 @@ module _ (checks : List (Option Refusal)) (s replies : List ℕ) where
         ∙ with-state runChecks (count s) m
         ∙ ap (λ (cs : List (Option Refusal)). verdictOf (first cs) (count s)) (append-assoc checks _ _)
 
-    pub step-accepted : (k : ℕ) → z ≡ Accepted k → first (stepChecks m) ≡ none
-    step-accepted k e = accepted (first (stepChecks m)) (count s) k (sym step-verdict ∙ e) .0
-
-    module _ (log : List ℕ) where
-      pub step-refused : (r : Refusal) → z ≡ Refused r → (a : Ran) → ((l : List ℕ) → a ≡ turnedAway r m l .answer)
-          → Called (stepping checks s replies log m) a log
+    module _ (log : List ℕ) (a : Ran) where
+      pub step-refused : (r : Refusal) → z ≡ Refused r → a ≡ awayWith r m → Called (stepping checks s replies log m) a log
       unfolding stepping unless turnedAway
-      step-refused r e a h = rw (refused (first (stepChecks m)) (count s) r (sym step-verdict ∙ e)) (record { answers = h log; logs = refl })
+      step-refused r e h = rw (refused (first (stepChecks m)) (count s) r (sym step-verdict ∙ e)) (record { answers = h; logs = refl })
 
-      pub step-called : (k : ℕ) → z ≡ Accepted k → (a : Ran) (log′ : List ℕ) → Called (ran (run (ops s) 1 (m .at) (memAt m replies log))) a log′
-          → Called (stepping checks s replies log m) a log′
+      pub step-called : (k : ℕ) → z ≡ Accepted k → m .at ≤ count s → (log′ : List ℕ)
+          → Called (ran (run (ops s) 1 (moveTo (count s) (m .at)) (memAt m replies log))) a log′ → Called (stepping checks s replies log m) a log′
       unfolding stepping unless
-      step-called k e a log′ h = rw (step-accepted k e) h
+      step-called k e l log′ h =
+          rw (accepted (first (stepChecks m)) (count s) k (sym step-verdict ∙ e) .0) (rw (move-in (count s) (m .at) l) at h)
 
 -- ## What is known of an accepted call
 
-pub counted-routine : (s : List ℕ) → Counted (checkRoutine s) s
-unfolding most
-counted-routine s n e = let h = admitted s n e in (sym (h .counted), omega (arith, h .fines .few))
-
-pub counted-base : (s : List ℕ) → Counted (checkRecords Base s) s
-unfolding most
-counted-base s n e = let h = held Base s n e in (sym (h .counted), h .fines .few)
-
-replies-accepted : (v : Verdict) (replies : List ℕ) (k : ℕ) → withReplies v replies ≡ Accepted k → v ≡ Accepted k
+pub replies-accepted : (replies : List ℕ) {v w : Verdict} {k : ℕ} → w ≡ withReplies v replies → w ≡ Accepted k → v ≡ Accepted k
 unfolding withReplies
-replies-accepted (Accepted n) replies k e = ap Accepted (sym (accepted _ n k e .1))
-replies-accepted (Refused r) replies k e = absurd (let z : _≡_ {A = ℕ} 0 1 = cc in omega arith)
+replies-accepted replies {v = v} {k = k} q e = by v (sym q ∙ e)
+  where
+    by : (v : Verdict) → withReplies v replies ≡ Accepted k → v ≡ Accepted k
+    by (Accepted n) e = ap Accepted (sym (accepted _ n k e .1))
+    by (Refused r) e = absurd (let z : _≡_ {A = ℕ} 0 1 = cc in omega arith)
 
-pub run-short : (v w : Verdict) (s replies : List ℕ) → Counted v s → w ≡ withReplies v replies → (k : ℕ) → w ≡ Accepted k → count s ≤ 4096
-run-short v w s replies h q k e = h k (replies-accepted v replies k (sym q ∙ e)) .1
-
-and-two : (a b c : Bool) → (a && b) && c ≡ true → (a ≡ true) × (b ≡ true)
-and-two true true c e = (refl, refl)
-and-two true false c e = absurd (let z : _≡_ {A = ℕ} 0 1 = cc in omega arith)
-and-two false b c e = absurd (let z : _≡_ {A = ℕ} 0 1 = cc in omega arith)
+and-first : (a b : Bool) → a && b ≡ true → a ≡ true
+and-first true b e = refl
+and-first false b e = absurd (let z : _≡_ {A = ℕ} 0 1 = cc in omega arith)
 
 not-not : (b : Bool) → not b ≡ false → b ≡ true
 not-not true e = refl
 not-not false e = absurd (let z : _≡_ {A = ℕ} 0 1 = cc in omega arith)
 
--- The position is in 0..n, and the depth at most 96.
-state-accepted : (v : Verdict) (m : State) (k : ℕ) → withState v m ≡ Accepted k → (v ≡ Accepted k) × (m .at ≤ k) × (m .stack .depth ≤ 96)
+-- The position is in 0..n.
+pub state-accepted : (m : State) {w z : Verdict} {k : ℕ} → z ≡ withState w m → z ≡ Accepted k → (w ≡ Accepted k) × (m .at ≤ k)
 unfolding withState sound
-state-accepted (Accepted n) m k e =
-    let a = accepted _ n k e in
-    let h = and-two (leb (m .at) n) (leb (m .stack .depth) 96) (entriesSound (m .stack .depth) (m .stack .entries)) (not-not (sound n m) (when-none _ refusal.State (a .0))) in
-    (ap Accepted (sym (a .1)), omega (arith, a .1, leb-true (m .at) n (h .0)), leb-true (m .stack .depth) 96 (h .1))
-state-accepted (Refused r) m k e = absurd (let z : _≡_ {A = ℕ} 0 1 = cc in omega arith)
+state-accepted m {w = w} {k = k} o e = by w (sym o ∙ e)
+  where
+    by : (w : Verdict) → withState w m ≡ Accepted k → (w ≡ Accepted k) × (m .at ≤ k)
+    by (Accepted n) e =
+        let a = accepted _ n k e in
+        let h = and-first (leb (m .at) n) _ (and-first _ _ (not-not (sound n m) (when-none _ refusal.State (a .0)))) in
+        (ap Accepted (sym (a .1)), omega (arith, a .1, leb-true (m .at) n h))
+    by (Refused r) e = absurd (let z : _≡_ {A = ℕ} 0 1 = cc in omega arith)
 
-pub step-sound : (v w z : Verdict) (s replies : List ℕ) (m : State) → Counted v s → w ≡ withReplies v replies → z ≡ withState w m
-    → (k : ℕ) → z ≡ Accepted k → (m .at ≤ count s) × (count s ≤ 4096) × (m .stack .depth ≤ 96)
-step-sound v w z s replies m h q o k e =
-    let a = state-accepted w m k (sym o ∙ e) in
-    let c = h k (replies-accepted v replies k (sym q ∙ a .0)) in
-    (omega (arith, a .1, c .0), c .1, a .2)
+pub few-routine : (s : List ℕ) {v : Verdict} {k : ℕ} → v ≡ checkRoutine s → v ≡ Accepted k → (count s ≡ k) × (count s ≤ 512)
+unfolding most
+few-routine s {k = k} c e = let h = admitted s k (sym c ∙ e) in (h .counted, h .fines .few)
+
+base-kind : (r : Rec) → fieldFault Base r ≡ false → r .kind < 6
+unfolding fieldFault inRow rowOf rows hasStack stackAction
+base-kind r h = by (leb (r .kind) 5) refl
+  where
+    by : (b : Bool) → leb (r .kind) 5 ≡ b → r .kind < 6
+    by true e = omega (arith, leb-true (r .kind) 5 e)
+    by false e =
+        let l = leb-false (r .kind) 5 e in
+        let n : names 3 (r .kind) ≡ false = names-leb 3 (r .kind) (λ z. omega arith) ∙ lt-leb (r .kind) 3 (omega arith) in
+        let z = rw (at-none (take 4 rows) (r .kind) (omega arith), n) at h in
+        absurd (let y : _≡_ {A = ℕ} 0 1 = cc in omega arith)
+
+-- No record of a base leads elsewhere, so a base needs no table.
+pub base-right : (s : List ℕ) {v : Verdict} {k : ℕ} → v ≡ checkRecords Base s → v ≡ Accepted k
+    → (count s ≡ k) × (count s ≤ 4096) × ((j : ℕ) → names (count s) j ≡ true → Right s [] j)
+unfolding most placeIn placeAt
+base-right s {k = k} c e = let h = held Base s k (sym c ∙ e) in (h .counted, h .fines .few, right (h .fines .faultless))
+  where
+    right : faultFrom Base 1 (count s) s ≡ none → (j : ℕ) → names (count s) j ≡ true → Right s [] j
+    right f j n =
+        let b = named (count s) j n in
+        let g = all-getD (λ r. fieldFault Base r ≡ false) (records s) (j - 1) (recAt s j) (no-faults Base 1 (count s) s f) (omega (arith, b, records-length s)) in
+        let r = records-getD s (j - 1) (recAt s j) (omega arith) ∙ sym (rec-at s j (λ z. omega arith) (b .1)) in
+        ap (moveTo (count s)) (sym (place-below (ops s) j (recAt s j .x) (recAt s j .y) (recAt s j .kind) (base-kind (recAt s j) (rw r at g))))

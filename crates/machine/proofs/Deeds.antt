@@ -1,199 +1,116 @@
 -- The deeds of the code are those of the definitions, kind by kind.
-use mathlib.Core.Path.{_≡_, refl, ap, _∙_}
-use Prim.Native.Nat.{ℕ, suc, _+_, _-_, _≤_, _<_}
+use mathlib.Core.Path.{_≡_, refl, sym, ap, _∙_}
+use Prim.Native.Nat.{ℕ, zero, suc, _+_, _-_, _≤_}
 use native.Mathlib.Omega.{arith}
 use native.Mathlib.Numerals.{add-one}
 use mathlib.Core.Bool.{Bool, true, false, cond}
-use mathlib.Core.Option.{some}
-use mathlib.Core.List.{List, _∷_}
-use lib.ListN.{length, getD, set, List·getD-eq-default}
-use lib.Seq.{getD-set-same, getD-set-other}
+use mathlib.Core.Option.{Option, none, some}
+use mathlib.Core.List.{List}
+use lib.ListN.{getD}
 use lib.Dec.{eqb}
-use borrow.Author.Tests.{ne-eqb, eqb-true, eqb-false}
-use Rattle.rules.specs.Record.{Rec, count}
-use Rattle.rules.specs.Numbers.{at, moveTo}
-use Rattle.rules.specs.Instruction.{push, actOf, Op, jump, written, decode, ops}
-use Rattle.rules.specs.declared.Status.{Status}
-use Rattle.rules.specs.declared.Status.the-variants.{StackFull}
-use Rattle.rules.specs.Stack.{full, pushed}
-use Rattle.rules.specs.Step.{Mem, withStack, Acted, did, stops, perform, agree, branch, does, deed, stepAt, step}
+use Rattle.rules.specs.Record.{Rec, rec, count}
+use Rattle.rules.specs.Numbers.{at, past, names, moveTo}
+use Rattle.rules.specs.Instruction.{outside, push, pop, compare, loop, actOf, Op, written, decode, ops}
+use Rattle.rules.specs.Partners.{endOf, separatorOf}
+use Rattle.rules.specs.Stack.{popped, top}
+use Rattle.rules.specs.Step.{Mem, Out, go, halt, withStack, Acted, did, stops, perform, agree, branch, leaving, does, deed, ask, stepAt, step}
 use Rattle.rules.proofs.Records.{recordAt, ops-length, ops-at}
+use Rattle.records.specs.Reading.{recAt}
 use Rattle.records.proofs.Reading.{rec-at}
-use Rattle.machine.specs.declared.deed.Own.the-variants.{Push, Pop, Compare, Return}
-use Rattle.machine.specs.declared.deed.Deed.{Deed}
-use Rattle.machine.specs.declared.deed.Deed.the-variants.{Leap, Ask, OnStack}
-use Rattle.machine.specs.Places.{placeFor, placeAt}
-use Rattle.machine.specs.Deeds.{owns, done, Leaps, Asks, Means, Steps}
-use Rattle.machine.proofs.Moves.{moved}
+use Rattle.stack.proofs.Moves.{move-named}
+use Rattle.ways.specs.Places.{places, placeFor, placeAt}
+use Rattle.deeds.specs.declared.Own.the-variants.{Push, Pop}
+use Rattle.deeds.specs.declared.Deed.{Deed}
+use Rattle.deeds.specs.declared.Deed.the-variants.{Leap, Ask, Change, Compare, Return}
+use Rattle.deeds.specs.Deeds.{asking, rows, placeIn, deedOf}
+use Rattle.steps.specs.Steps.{done}
 
--- ## Actions
+-- A move to any number outside 1..n sets 0.
+unfoldable pub landed : ℕ → Out → Out
+landed n (go k m) = go (moveTo n k) m
+landed n (halt w) = halt w
 
--- A push replies yes, so where it goes on no does not matter.
-push-yes : (y t f g : ℕ) (m : Mem) → branch true t f (perform (push y) m) ≡ branch true t g (perform (push y) m)
-unfolding perform branch agree
-push-yes y t f g m = by (full (m .stack)) StackFull (withStack (pushed y (m .stack)) m)
-  where
-    by : (b : Bool) (w : Status) (m′ : Mem) → branch true t f (cond b (stops w) (did true m′)) ≡ branch true t g (cond b (stops w) (did true m′))
-    by true w m′ = refl
-    by false w m′ = refl
+module _ (n : ℕ) (m : Mem) where
+  land-branch : (v : Bool) (t f : ℕ) (r : Acted) → branch v (moveTo n t) (moveTo n f) r ≡ landed n (branch v t f r)
+  unfolding branch landed
+  land-branch v t f (did b m′) = by (agree v b)
+    where
+      by : (a : Bool) → go (cond a (moveTo n t) (moveTo n f)) m′ ≡ landed n (go (cond a t f) m′)
+      by true = refl
+      by false = refl
+  land-branch v t f (stops w) = refl
 
--- On the other sign yes and no are exchanged.
-minus : (t f : ℕ) (r : Acted) → branch false t f r ≡ branch true f t r
-unfolding branch agree
-minus t f (did true m) = refl
-minus t f (did false m) = refl
-minus t f (stops w) = refl
+  -- On the other sign yes and no are exchanged.
+  exchanged : (t f : ℕ) (r : Acted) → branch false t f r ≡ branch true f t r
+  unfolding branch agree
+  exchanged t f (did true m′) = refl
+  exchanged t f (did false m′) = refl
+  exchanged t f (stops w) = refl
 
--- With the places moved.
-module _ (n x y t f : ℕ) {t′ f′ : ℕ} (p : t′ ≡ moveTo n t) (q : f′ ≡ moveTo n f) where
-  pub asks-push : x ≡ 1001 → Asks n x y t f (OnStack (Push y t′))
-  unfolding does done owns actOf
-  asks-push e m = rw (e, p, moved n t) (push-yes y (moveTo n t) (moveTo n f) (moveTo n t) m)
+  returned : (o : Option ℕ) → leaving n o m ≡ landed n (leaving n o m)
+  unfolding leaving landed moveTo names
+  returned none = refl
+  returned (some t) = by (names n t) refl
+    where
+      by : (b : Bool) → names n t ≡ b
+          → cond b (go t (withStack (popped (m .stack)) m)) (go 0 m) ≡ landed n (cond b (go t (withStack (popped (m .stack)) m)) (go 0 m))
+      by true e = ap (λ k. go k (withStack (popped (m .stack)) m)) (sym (move-named n t e))
+      by false e = refl
 
-  pub asks-pop : x ≡ 1002 → Asks n x y t f (OnStack (Pop t′ f′))
-  unfolding does done owns actOf
-  asks-pop e m = rw (e, p, q, moved n t, moved n f)
+  module _ (x y : ℕ) where
+    asked : (t f : ℕ) → branch true t f (perform (actOf x y) m) ≡ done n (asking x y t f) m
+    unfolding actOf asking done
+    asked t f = by (eqb x 1001) (eqb x 1002) (eqb x 1003)
+      where
+        by : (a b c : Bool)
+            → branch true t f (perform (cond a (push y) (cond b pop (cond c (compare y) (outside x)))) m)
+            ≡ done n (cond a (Change (Push y) t f) (cond b (Change Pop t f) (cond c (Compare y t f) (Ask x t f)))) m
+        by true b c = refl
+        by false true c = refl
+        by false false true = refl
+        by false false false = refl
 
-  pub asks-compare : x ≡ 1003 → Asks n x y t f (OnStack (Compare y t′ f′))
-  unfolding does done owns actOf
-  asks-compare e m = rw (e, p, q, moved n t, moved n f)
+    -- With places t′ and f′ to which a move is the same.
+    plus : (t f t′ f′ : ℕ) → moveTo n t′ ≡ moveTo n t → moveTo n f′ ≡ moveTo n f → does n (ask (actOf x y) true t f) m ≡ landed n (done n (asking x y t′ f′) m)
+    unfolding does
+    plus t f t′ f′ p q = rw (← p, ← q) (land-branch true t′ f′ (perform (actOf x y) m) ∙ ap (landed n) (asked t′ f′))
 
-  pub asks-outside : ¬ (x ≡ 1001) → ¬ (x ≡ 1002) → ¬ (x ≡ 1003) → Asks n x y t f (Ask x t′ f′)
-  unfolding does done owns actOf
-  asks-outside a b c m = rw (ne-eqb x 1001 a, ne-eqb x 1002 b, ne-eqb x 1003 c, p, q, moved n t, moved n f)
+    minus : (t f t′ f′ : ℕ) → moveTo n t′ ≡ moveTo n t → moveTo n f′ ≡ moveTo n f → does n (ask (actOf x y) false t f) m ≡ landed n (done n (asking x y f′ t′) m)
+    unfolding does
+    minus t f t′ f′ p q =
+        rw (← p, ← q)
+        (exchanged (moveTo n t′) (moveTo n f′) (perform (actOf x y) m) ∙ land-branch true f′ t′ (perform (actOf x y) m) ∙ ap (landed n) (asked f′ t′))
 
-pub leaps : (n k : ℕ) {k′ : ℕ} → k′ ≡ moveTo n k → Leaps n k (Leap k′)
-unfolding done
-leaps n k p m = rw (p, moved n k)
+    -- Record i of L, where it leads by p as it should.
+    module _ (L : List Op) (i p : ℕ) where
+      pub kinds : (k : ℕ) → moveTo n p ≡ moveTo n (placeFor L i k x y)
+          → does n (deed L i (decode (rec k x y))) m ≡ landed n (done n (getD (rows i (suc i) x y p) k (Leap 0)) m)
+      unfolding decode written deed does done landed placeFor places rows moveTo names
+      kinds zero e = refl
+      kinds (suc zero) e = plus (suc i) (suc i) (suc i) (suc i) refl refl
+      kinds (suc (suc zero)) e = plus (suc i) (suc (suc i)) (suc i) (suc (suc i)) refl refl
+      kinds (suc (suc (suc zero))) e = minus (suc i) (suc (suc i)) (suc i) (suc (suc i)) refl refl
+      kinds (suc (suc (suc (suc zero)))) e = refl
+      kinds (suc (suc (suc (suc (suc zero))))) e = refl
+      kinds (suc (suc (suc (suc (suc (suc zero)))))) e = ap (λ k. go k m) (sym e)
+      kinds (suc (suc (suc (suc (suc (suc (suc zero))))))) e = ap (λ k. go k m) (sym e)
+      kinds (suc (suc (suc (suc (suc (suc (suc (suc zero)))))))) e = plus (suc i) (past (separatorOf L i)) (suc i) p refl e
+      kinds (suc (suc (suc (suc (suc (suc (suc (suc (suc zero))))))))) e = minus (suc i) (past (separatorOf L i)) (suc i) p refl e
+      kinds (suc (suc (suc (suc (suc (suc (suc (suc (suc (suc zero)))))))))) e = ap (λ k. go k m) (sym e)
+      kinds (suc (suc (suc (suc (suc (suc (suc (suc (suc (suc (suc zero))))))))))) e = ap (λ k. go k m) (sym e)
+      kinds (suc (suc (suc (suc (suc (suc (suc (suc (suc (suc (suc (suc zero)))))))))))) e = plus (suc i) (past (endOf loop L i)) (suc i) p refl e
+      kinds (suc (suc (suc (suc (suc (suc (suc (suc (suc (suc (suc (suc (suc zero))))))))))))) e = minus (suc i) (past (endOf loop L i)) (suc i) p refl e
+      kinds (suc (suc (suc (suc (suc (suc (suc (suc (suc (suc (suc (suc (suc (suc zero)))))))))))))) e = ap (λ k. go k m) (sym e)
+      kinds (suc (suc (suc (suc (suc (suc (suc (suc (suc (suc (suc (suc (suc (suc (suc zero))))))))))))))) e = land-branch true x x (perform (push (suc i)) m)
+      kinds (suc (suc (suc (suc (suc (suc (suc (suc (suc (suc (suc (suc (suc (suc (suc (suc zero)))))))))))))))) e = returned (top (m .stack))
+      kinds (suc (suc (suc (suc (suc (suc (suc (suc (suc (suc (suc (suc (suc (suc (suc (suc (suc k))))))))))))))))) e = refl
 
--- ## Records
-
-two-more : (i : ℕ) → i + 2 ≡ suc (suc i)
-two-more i = omega arith
-
-module _ (n : ℕ) (L : List Op) (i k x y : ℕ) where
-  module _ (d : Deed) where
-    pub means-act : k ≡ 1 → Asks n x y (i + 1) (i + 1) d → Means n L i k x y d
-    unfolding decode written deed
-    means-act e a m = rw e (rw add-one at (a m))
-
-    pub means-plus : k ≡ 2 → Asks n x y (i + 1) (i + 2) d → Means n L i k x y d
-    unfolding decode written deed
-    means-plus e a m = rw e (rw (add-one, two-more) at (a m))
-
-    pub means-minus : k ≡ 3 → Asks n x y (i + 2) (i + 1) d → Means n L i k x y d
-    unfolding decode written deed does
-    means-minus e a m = rw e (minus (moveTo n (suc i)) (moveTo n (suc (suc i))) (perform (actOf x y) m) ∙ rw (add-one, two-more) at (a m))
-
-    pub means-jump : k ≡ 4 → Leaps n x d → Means n L i k x y d
-    unfolding decode written deed does
-    means-jump e a m = rw e (a m)
-
-    pub means-label : k ≡ 5 → Leaps n (i + 1) d → Means n L i k x y d
-    unfolding decode written deed does
-    means-label e a m = rw e (rw add-one at (a m))
-
-    module _ (to : ℕ) (h : to ≡ placeFor L i k x y) where
-      pub means-block-plus : k ≡ 8 → Asks n x y (i + 1) to d → Means n L i k x y d
-      unfolding decode written deed placeFor
-      means-block-plus e a m = let p = rw e at h in rw e (rw (add-one, p) at (a m))
-
-      pub means-block-minus : k ≡ 9 → Asks n x y to (i + 1) d → Means n L i k x y d
-      unfolding decode written deed does placeFor
-      means-block-minus e a m =
-          let p = rw e at h in
-          rw e (minus _ _ (perform (actOf x y) m) ∙ rw (add-one, p) at (a m))
-
-      pub means-loop-plus : k ≡ 12 → Asks n x y (i + 1) to d → Means n L i k x y d
-      unfolding decode written deed placeFor
-      means-loop-plus e a m = let p = rw e at h in rw e (rw (add-one, p) at (a m))
-
-      pub means-loop-minus : k ≡ 13 → Asks n x y to (i + 1) d → Means n L i k x y d
-      unfolding decode written deed does placeFor
-      means-loop-minus e a m =
-          let p = rw e at h in
-          rw e (minus _ _ (perform (actOf x y) m) ∙ rw (add-one, p) at (a m))
-
-      module _ (a : Leaps n to d) where
-        means-goto : k ≡ 6 → Means n L i k x y d
-        unfolding decode written deed does placeFor
-        means-goto e m = let p = rw e at h in rw e (rw p at (a m))
-
-        means-goto2 : k ≡ 7 → Means n L i k x y d
-        unfolding decode written deed does placeFor
-        means-goto2 e m = let p = rw e at h in rw e (rw p at (a m))
-
-        means-separator : k ≡ 10 → Means n L i k x y d
-        unfolding decode written deed does placeFor
-        means-separator e m = let p = rw e at h in rw e (rw p at (a m))
-
-        means-end : k ≡ 11 → Means n L i k x y d
-        unfolding decode written deed does placeFor
-        means-end e m = let p = rw e at h in rw e (rw p at (a m))
-
-        pub means-loop-end : k ≡ 14 → Means n L i k x y d
-        unfolding decode written deed does placeFor
-        means-loop-end e m = let p = rw e at h in rw e (rw p at (a m))
-
-        pub means-gotos : 6 ≤ k → k ≤ 7 → Means n L i k x y d
-        means-gotos p q = by (eqb k 6) refl
-          where
-            by : (b : Bool) → eqb k 6 ≡ b → Means n L i k x y d
-            by true e = means-goto (eqb-true k 6 e)
-            by false e = means-goto2 (omega (arith, eqb-false k 6 e))
-
-        pub means-parts : 10 ≤ k → k ≤ 11 → Means n L i k x y d
-        means-parts p q = by (eqb k 10) refl
-          where
-            by : (b : Bool) → eqb k 10 ≡ b → Means n L i k x y d
-            by true e = means-separator (eqb-true k 10 e)
-            by false e = means-end (omega (arith, eqb-false k 10 e))
-
-  pub means-call : k ≡ 15 → {to : ℕ} → to ≡ moveTo n x → Means n L i k x y (OnStack (Push (i + 1) to))
-  unfolding decode written deed does done owns
-  means-call e p m = rw (e, add-one, p, moved n x)
-
-  pub means-return : k ≡ 16 → Means n L i k x y (OnStack Return)
-  unfolding decode written deed does done owns
-  means-return e m = rw e
-
-  pub means-zero : k ≡ 0 → Means n L i k x y (Leap 0)
-  unfolding decode written deed does done
-  means-zero e m = rw e
-
-  -- No other kind is an instruction.
-  pub means-none : 16 < k → Means n L i k x y (Leap 0)
-  unfolding decode written deed does done
-  means-none h m = ap (λ (o : Op). does n (deed L i o) m) (List·getD-eq-default (jump 0 ∷ written (actOf x y) x y) (jump 0) {n = k} h)
-
--- ## Steps
-
-module _ (s : List ℕ) (i : ℕ) (l : 1 ≤ i) (h : i ≤ count s) (d : Deed) where
-  abbrev own : Rec
-  own = recordAt s (i - 1)
-
-  steps-at : Means (count s) (ops s) i (own .kind) (own .x) (own .y) d → Steps s i d
-  unfolding step stepAt
-  steps-at a m =
-      let e : i ≡ suc (i - 1) = omega arith in
-      let q : at (ops s) i ≡ some (decode own) = ap (at (ops s)) e ∙ ops-at s (i - 1) (omega arith) in
-      rw (q, ops-length s) (a m)
-
-  -- The record at i, read from its bytes.
-  pub steps-read : (x y : ℕ) → x ≡ own .x → y ≡ own .y
-      → (placeAt s i ≡ placeFor (ops s) i (own .kind) x y → Means (count s) (ops s) i (own .kind) x y d) → Steps s i d
-  unfolding placeAt
-  steps-read x y p q a =
-      steps-at ((rw (p, q) at a) (ap (λ (r : Rec). placeFor (ops s) i (r .kind) (r .x) (r .y)) (rec-at s i (λ z. omega arith) h)))
-
--- ## Worked out one after another
-
-abbrev pub First : List ℕ → List Deed → ℕ → Type 0
-First s ds k = (j : ℕ) → j < k → Steps s (suc j) (getD ds j (Leap 0))
-
-pub one-more : (s : List ℕ) (ds : List Deed) (k : ℕ) (d : Deed) → k < length ds → Steps s (k + 1) d → First s ds k → First s (set ds k d) (k + 1)
-one-more s ds k d l a h j q = by (eqb j k) refl
-  where
-    by : (b : Bool) → eqb j k ≡ b → Steps s (suc j) (getD (set ds k d) j (Leap 0))
-    by true p = let z = eqb-true j k p in rw (z, getD-set-same ds k d (Leap 0) l, ← add-one k) a
-    by false p = let z = eqb-false j k p in rw (getD-set-other ds k j d (Leap 0) z) (h j (omega arith))
+-- The step at position i of the file, by the table of places.
+pub stands : (s ps : List ℕ) (i : ℕ) → 1 ≤ i → i ≤ count s → moveTo (count s) (placeIn ps i) ≡ moveTo (count s) (placeAt s i)
+    → (d : Deed) → d ≡ deedOf s ps i (i + 1) (recAt s i .kind) → (m : Mem) → step (ops s) i m ≡ landed (count s) (done (count s) d m)
+unfolding step stepAt deedOf placeAt
+stands s ps i l h e d f m =
+    let z : i ≡ suc (i - 1) = omega arith in
+    let r = rec-at s i (λ q. omega arith) h in
+    let q : at (ops s) i ≡ some (decode (recAt s i)) = ap (at (ops s)) z ∙ ops-at s (i - 1) (omega arith) ∙ ap (λ (o : Rec). some (decode o)) (sym r) in
+    rw (q, ops-length s, f, add-one) (kinds (count s) m (recAt s i .x) (recAt s i .y) (ops s) i (placeIn ps i) (recAt s i .kind) e)

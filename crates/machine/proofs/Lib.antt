@@ -1,11 +1,5 @@
-pub mod Stacks
-pub mod States
-pub mod Moves
-pub mod Places
 pub mod Deeds
-pub mod Asking
-pub mod Turning
 pub mod Running
-pub mod Stepping
+pub mod Tables
 pub mod Checking
 pub mod Once

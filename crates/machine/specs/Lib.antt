@@ -1,9 +1,1 @@
-pub mod Stacks
-pub mod States
-pub mod Places
-pub mod Deeds
-pub mod Asking
-pub mod Turning
-pub mod Stopping
-pub mod Checking
-pub mod Stepping
+pub mod Running

@@ -15,8 +15,8 @@ pub list-spec : {M : Type 1} → statement M
 list-spec =
     tie.close
     (tie.spec
-    (λ c. search needs)
-    (λ c. search needs)
+    (λ c. sym zeros)
+    (λ c. sym zeros)
     (λ c κs. search needs)
     (λ c. search needs)
     (λ c. search needs)

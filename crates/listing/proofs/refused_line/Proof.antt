@@ -22,7 +22,7 @@ refused-line-spec =
     (λ c κs. search needs)
     (λ c. search needs)
     (λ c κs. search needs)
-    (λ c. rw (← refused-is _ (c .before .before .before .before .before .number-of .ensures) (c .before .before .before .before .place-of .ensures)) (no-line (omega (arith, whole (c .before .before) .count))))
+    (λ c. rw (← refused-is _ (c .before .before .before .before .before .number-of .ensures) (c .before .before .before .before .place-of .ensures)) (no-line (whole (c .before .before) .count) (c .if1 .taken)))
     (λ c. omega (arith, print-sizes (c .before .before .put-numbers .ensures)))
     (λ c. rw (page (whole (c .before .before .before))) (whole (c .before .before .before) .count))
     (λ c κs. search needs)
@@ -30,4 +30,4 @@ refused-line-spec =
     (λ c.
     let w = whole (c .before .before .before .before .before .before .before) in
     rw (← refused-is _ (c .before .before .before .before .before .before .before .before .before .before .number-of .ensures) (c .before .before .before .before .before .before .before .before .before .place-of .ensures))
-    (its-line (omega (arith, w .count)) (rw (page w) at (c .before .before .put-word .ensures)))))
+    (its-line (w .count) (c .before .before .before .before .before .if1 .left) (rw (page w) at (c .before .before .put-word .ensures)))))

@@ -1,0 +1,124 @@
+// What a record does, with its numbers worked out, at the moment it is run.
+use records::kind_at;
+use records::x_at;
+use records::y_at;
+ghost use mathlib.Core.Path.{_≡_};
+ghost use mathlib.Core.List.{List};
+ghost use Prim.Native.Nat.{ℕ, _+_, _≤_, _<_, _^_};
+ghost use Rattle.rules.specs.Record.{count};
+ghost use Rattle.records.specs.Reading.{recAt};
+ghost use Rattle.deeds.specs.Deeds.{placeIn, asking, deedOf};
+
+// The actions that change the counter stack.
+pub enum Own {
+    Push(u16),
+    Pop,
+}
+
+// Go to the place; do the outside action, change the counter stack, or compare its top with the number, with the places on yes and on no;
+// go back to the number on top.
+pub enum Deed {
+    Leap(usize),
+    Ask(u16, usize, usize),
+    Change(Own, usize, usize),
+    Compare(u16, usize, usize),
+    Return,
+}
+
+fn wide(v: u16) -> usize
+    ensures { λ r. ⌜ r ≡ v ⌝ }
+{
+    v as usize
+}
+
+// Where a goto or a bracket leads: from the table, which a base has none of.
+fn place_at(places: &[u16], i: usize) -> usize
+    requires { ⌜ 1 ≤ i ⌝ }
+    ensures { λ r. ⌜ r ≡ placeIn (now (places .entry)) i ⌝ }
+{
+    if places.len() < i {
+        return 0;
+    }
+    wide(places[i - 1])
+}
+
+// The record's action, with the places on yes and on no. In a base 1001 pushes y, 1002 pops, 1003 compares the top with y.
+fn ask(s: &[u8], i: usize, yes: usize, no: usize) -> Deed
+    ensures { λ r. ⌜ r ≡ asking (recAt (now (s .entry)) i .x) (recAt (now (s .entry)) i .y) «yes» «no» ⌝ }
+{
+    let x = x_at(s, i);
+    match x {
+        1001 => Deed::Change(Own::Push(y_at(s, i)), yes, no),
+        1002 => Deed::Change(Own::Pop, yes, no),
+        1003 => Deed::Compare(y_at(s, i), yes, no),
+        _ => Deed::Ask(x, yes, no),
+    }
+}
+
+// a: do a, go to i+1. +a: on yes i+1, on no i+2. -a: the reverse. ##k: go to k. [s]: i+1. Gotos: to the target, or end.
+fn plain(kind: u8, s: &[u8], places: &[u16], i: usize) -> Deed
+    requires { ⌜ (1 ≤ kind) × (kind ≤ 7) × (1 ≤ i) × (i ≤ count (now s)) ⌝ }
+    ensures { λ r. ⌜ ((next : ℕ) → r ≡ deedOf (now (s .entry)) (now (places .entry)) i next kind) ⌝ }
+{
+    match kind {
+        1 => ask(s, i, i + 1, i + 1),
+        2 => ask(s, i, i + 1, i + 2),
+        3 => ask(s, i, i + 2, i + 1),
+        4 => Deed::Leap(x_at(s, i) as usize),
+        5 => Deed::Leap(i + 1),
+        _ => Deed::Leap(place_at(places, i)),
+    }
+}
+
+// +a{: on yes i+1, on no past the separator. -a{ with yes and no exchanged. }{: past its end. }: i+1 or end.
+fn block(kind: u8, s: &[u8], places: &[u16], i: usize) -> Deed
+    requires { ⌜ (8 ≤ kind) × (kind ≤ 11) × (1 ≤ i) × (i ≤ count (now s)) ⌝ }
+    ensures { λ r. ⌜ ((next : ℕ) → r ≡ deedOf (now (s .entry)) (now (places .entry)) i next kind) ⌝ }
+{
+    let to = place_at(places, i);
+    match kind {
+        8 => ask(s, i, i + 1, to),
+        9 => ask(s, i, to, i + 1),
+        _ => Deed::Leap(to),
+    }
+}
+
+// +a{*: on yes i+1, on no past the loop end. -a{* with yes and no exchanged. *}: to the loop header.
+fn round(kind: u8, s: &[u8], places: &[u16], i: usize) -> Deed
+    requires { ⌜ (12 ≤ kind) × (kind ≤ 14) × (1 ≤ i) × (i ≤ count (now s)) ⌝ }
+    ensures { λ r. ⌜ ((next : ℕ) → r ≡ deedOf (now (s .entry)) (now (places .entry)) i next kind) ⌝ }
+{
+    let to = place_at(places, i);
+    match kind {
+        12 => ask(s, i, i + 1, to),
+        13 => ask(s, i, to, i + 1),
+        _ => Deed::Leap(to),
+    }
+}
+
+// R##k: push i+1, go to k. ##R: back to the number on top.
+fn call(kind: u8, s: &[u8], i: usize, next: u16) -> Deed
+    requires { ⌜ (15 ≤ kind) × (kind ≤ 16) ⌝ }
+    ensures { λ r. ⌜ ((ps : List ℕ) → r ≡ deedOf (now (s .entry)) ps i next kind) ⌝ }
+{
+    if kind == 15 {
+        let k = x_at(s, i) as usize;
+        return Deed::Change(Own::Push(next), k, k);
+    }
+    Deed::Return
+}
+
+// What one step does is decided by the kind. `next` is the number after i, as a call pushes it. One caller only, the machine's loop, so
+// that it is compiled into that.
+pub fn deed_at(s: &[u8], places: &[u16], i: usize, next: u16) -> Deed
+    ensures { λ r. ⌜ r ≡ deedOf (now (s .entry)) (now (places .entry)) i next (recAt (now (s .entry)) i .kind) ⌝ }
+{
+    let kind = kind_at(s, i);
+    match kind {
+        1..=7 => plain(kind, s, places, i),
+        8..=11 => block(kind, s, places, i),
+        12..=14 => round(kind, s, places, i),
+        15..=16 => call(kind, s, i, next),
+        _ => Deed::Leap(0),
+    }
+}

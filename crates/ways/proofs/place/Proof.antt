@@ -1,0 +1,117 @@
+use mathlib.Core.Path.{_≡_, sym, ap, _∙_}
+use Prim.Native.Nat.{_≤_, _<_}
+use native.Mathlib.Omega.{arith}
+use native.Mathlib.Numerals.{add-one}
+use borrow.Author.Needs.{needs}
+use Rattle.rules.specs.Instruction.{conditional, loop}
+use Rattle.rules.specs.Labels.{target, target2}
+use Rattle.ways.specs.Places.{places, placeFor, placeAt}
+use Rattle.ways.proofs.Places.{in-file, end-in, separator-in, past-of, place-header, place-loop, place-below, place-above}
+use Rattle.ways.proofs.place.Statement.{statement}
+use Rattle.ways.proofs.place.Tie as tie
+
+fits : tie.Need-next-if-requires
+fits c κs =
+    let a = c .before .before .before .before .args in
+    omega (arith, c .conditional-end .ensures, end-in (a .s .now) (a .i) (omega (arith, c .before .before .kind-at .ensures, c .before .match .keys3)) conditional)
+
+fits-2 : tie.Need-next-if-requires-2
+fits-2 c κs =
+    let a = c .before .before .before .before .args in
+    omega (arith, in-file (a .s .now) (a .i) (omega (arith, c .before .before .kind-at .ensures, c .before .match .keys4)))
+
+fits-3 : tie.Need-next-if-requires-3
+fits-3 c κs =
+    let a = c .before .before .before .before .before .before .args in
+    omega (arith, c .separator-of .ensures, separator-in (a .s .now) (a .i) (omega (arith, c .before .before .before .before .kind-at .ensures, c .before .before .if1 .left)))
+
+fits-4 : tie.Need-next-if-requires-4
+fits-4 c κs =
+    let a = c .before .before .before .before .before .before .before .args in
+    omega (arith, c .loop-end .ensures, end-in (a .s .now) (a .i) (omega (arith, c .before .before .before .before .before .kind-at .ensures, c .before .before .before .if1 .left)) loop)
+
+gotos : tie.Need-returns
+unfolding placeAt placeFor places
+gotos c =
+    let e = sym (c .before .before .before .kind-at .ensures) ∙ c .before .before .match .keys1 in
+    rw e (c .target .ensures ∙ ap (target _) (c .before .x-at .ensures))
+
+gotos-2 : tie.Need-returns-2
+unfolding placeAt placeFor places
+gotos-2 c =
+    let e = sym (c .before .before .before .before .kind-at .ensures) ∙ c .before .before .before .match .keys2 in
+    rw e (c .target2 .ensures ∙ rw (c .before .before .x-at2 .ensures, c .before .y-at .ensures))
+
+separates : tie.Need-returns-3
+unfolding placeAt placeFor places
+separates c =
+    let e = sym (c .before .before .before .kind-at .ensures) ∙ c .before .before .match .keys3 in
+    rw e (past-of _ _ _ (c .before .conditional-end .ensures) (c .next-if .ensures))
+
+ends : tie.Need-returns-4
+unfolding placeAt placeFor places
+ends c =
+    let e = sym (c .before .before .before .kind-at .ensures) ∙ c .before .before .match .keys4 in
+    rw e (c .next-if2 .ensures ∙ rw (add-one, c .before .item-separator .ensures))
+
+loop-ends : tie.Need-returns-5
+unfolding placeAt placeFor places
+loop-ends c =
+    let e = sym (c .before .before .kind-at .ensures) ∙ c .before .match .keys5 in
+    rw e (c .loop-header .ensures)
+
+headers : tie.Need-returns-6
+unfolding placeAt
+headers c =
+    let e = c .before .before .before .before .before .kind-at .ensures in
+    past-of _ _ _ (c .before .separator-of .ensures) (c .next-if3 .ensures)
+    ∙ sym (place-header _ _ _ _ _ (omega (arith, e, c .before .before .before .if1 .left)) (omega (arith, e, c .before .before .if2 .taken)))
+
+loop-headers : tie.Need-returns-7
+unfolding placeAt
+loop-headers c =
+    let e = c .before .before .before .before .before .before .kind-at .ensures in
+    let q = c .before .before .before .before .before .match .rest in
+    past-of _ _ _ (c .before .loop-end .ensures) (c .next-if4 .ensures)
+    ∙ sym (place-loop _ _ _ _ _ (omega (arith, e, q .0 .0 .1, q .0 .1, c .before .before .before .if2 .left)) (omega (arith, e, c .before .before .if3 .taken)))
+
+lower : tie.Need-returns-8
+unfolding placeAt
+lower c =
+    let q = c .before .match .rest in
+    sym (place-below _ _ _ _ _ (omega (arith, c .before .before .kind-at .ensures, q .0 .0 .0 .0 .1, q .0 .0 .0 .1, c .if1 .taken)))
+
+higher : tie.Need-returns-9
+unfolding placeAt
+higher c =
+    let q = c .before .before .before .match .rest in
+    sym (place-above _ _ _ _ _ (omega (arith, c .before .before .before .before .kind-at .ensures, q .1, c .if3 .left)))
+
+pub place-spec : {M : Type 1} → statement M
+place-spec =
+    tie.close
+    (tie.spec
+    (λ c κs. search needs)
+    (λ c κs. search needs)
+    (λ c κs. search needs)
+    (λ c κs. search needs)
+    (λ c κs. search needs)
+    (λ c κs. search needs)
+    (λ c κs. search needs)
+    fits
+    (λ c κs. search needs)
+    fits-2
+    (λ c κs. search needs)
+    (λ c κs. search needs)
+    fits-3
+    (λ c κs. search needs)
+    fits-4
+    gotos
+    gotos-2
+    separates
+    ends
+    loop-ends
+    headers
+    loop-headers
+    lower
+    higher)
