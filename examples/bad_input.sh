@@ -1,5 +1,6 @@
 #!/bin/sh
 # Gives the built program what is no routine. Each time it must end by itself and print one line, or a listing as long as it says.
+# Where the input cannot be read, or the output not written, it must print nothing and say so in one line on standard error.
 # One line a try; fails where one is wrong. Usage: examples/bad_input.sh [PROGRAM], after `rt check list`.
 cd "$(dirname "$0")" || exit 1
 program=${1:-../target/bin/list}
@@ -17,6 +18,16 @@ try() {
         echo "ok      $1: $first"
     else
         echo "WRONG   $1: $first"
+    fi
+}
+
+# says NAME LINE: what came on standard output and standard error together is this line alone.
+says() {
+    said=$(cat)
+    if test "$said" = "$2"; then
+        echo "ok      $1: $said"
+    else
+        echo "WRONG   $1: $said"
     fi
 }
 
@@ -42,6 +53,11 @@ tries() {
     for number in 0 1 2 3 4 5 6 7 8 9 10 11 12 13 14 15 16 17 18 19 255; do
         kind "$number" | try "kind $number alone"
     done
+    "$program" <. 2>&1 | says "a directory" "list: standard input cannot be read"
+    "$program" 2>&1 <&- | says "a closed input" "list: standard input cannot be read"
+    "$program" <empty.routine 2>&1 >/dev/full | says "a full output" "list: standard output cannot be written"
+    "$program" <refused_kind.routine 2>&1 >/dev/full | says "a refusal to a full output" "list: standard output cannot be written"
+    "$program" <there_and_back.routine 2>&1 >&- | says "a closed output" "list: standard output cannot be written"
 }
 
 results=$(tries)

@@ -56,7 +56,8 @@ def routine(text):
     return file
 
 
-for line in (HERE / "routines.txt").read_text().splitlines():
-    if line and not line.startswith("#"):
-        name, text = line.split(":", 1)
-        (HERE / (name if name.endswith(".base") else f"{name}.routine")).write_bytes(routine(text))
+if __name__ == "__main__":
+    for line in (HERE / "routines.txt").read_text().splitlines():
+        if line and not line.startswith("#"):
+            name, text = line.split(":", 1)
+            (HERE / (name if name.endswith(".base") else f"{name}.routine")).write_bytes(routine(text))

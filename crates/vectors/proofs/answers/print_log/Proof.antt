@@ -5,10 +5,10 @@ use Rattle.vectors.proofs.answers.print_log.Statement.{statement}
 use Rattle.vectors.proofs.answers.print_log.Tie as tie
 
 abbrev Inv-loop : tie.InvT-loop
-Inv-loop log actions i₀ i = Unit {0}
+Inv-loop log actions i₀ t4 i = Unit {0}
 
 abbrev μ-loop : tie.MeasureT-loop
-μ-loop log actions i₀ i = actions - i
+μ-loop log actions i₀ t4 i = actions - i
 
 pub print-log-spec : {M : Type 1} → statement M
 print-log-spec =
@@ -17,9 +17,8 @@ print-log-spec =
     Inv-loop
     μ-loop
     (λ c. tt)
-    (λ c κs. search needs)
-    (λ c κs. search needs)
-    (λ c. omega arith)
+    (λ c. search needs) (λ c. omega arith) (λ c. omega arith) (λ c. omega arith) (λ c. omega arith)
+    (λ c. omega arith) (λ c κs. search needs) (λ c. search needs) (λ c κs. search needs) (λ c. omega arith)
     (λ c. omega arith)
     (λ c. tt)
     (λ c. search needs))
