@@ -145,7 +145,7 @@ pub extern "C" fn qh_check_routine(bytes: &[u8]) -> QhVerdict
 pub extern "C" fn qh_check_base(bytes: &[u8]) -> QhVerdict
     ensures { λ r. ⌜ r ≡ verdictTold (checkRecords Notation.Base (now (bytes .entry))) ⌝ }
 {
-    tell_verdict(records::check::check_base(bytes))
+    tell_verdict(checks::check_base(bytes))
 }
 
 // The checks of a relative base.
@@ -153,7 +153,7 @@ pub extern "C" fn qh_check_base(bytes: &[u8]) -> QhVerdict
 pub extern "C" fn qh_check_relative(bytes: &[u8]) -> QhVerdict
     ensures { λ r. ⌜ r ≡ verdictTold (checkRecords Notation.Relative (now (bytes .entry))) ⌝ }
 {
-    tell_verdict(records::check::check_relative(bytes))
+    tell_verdict(checks::check_relative(bytes))
 }
 
 // The base of a routine.

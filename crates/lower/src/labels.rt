@@ -1,10 +1,10 @@
 // Stage 1: labels (3.6).
+use partners::target;
+use partners::target2;
 use records::kind_at;
 use records::put_record;
 use records::x_at;
 use records::y_at;
-use shape::target;
-use shape::target2;
 ghost use mathlib.Core.List.{[], _∷_, map};
 ghost use Prim.Native.Nat.{_*_, _≤_};
 ghost use lib.ListN.{length};

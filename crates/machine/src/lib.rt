@@ -9,7 +9,7 @@ mod state;
 mod step;
 mod turn;
 
-use records::check::check_base;
+use checks::check_base;
 use rules::Ran;
 use rules::State;
 use run::run;

@@ -1,5 +1,3 @@
 pub mod Reading
-pub mod Rows
-pub mod Faults
-pub mod Once
 pub mod Writing
+pub mod Once

@@ -1,7 +1,4 @@
-// Bytes and records: readers by record number, the one writer of a record, the constant table, and refusals 1 to 4.
-pub mod check;
-pub mod table;
-
+// Bytes and records: readers by record number, the one writer of a record, and a buffer made zero.
 ghost use mathlib.Core.Path.{_≡_};
 ghost use Prim.Native.Nat.{_+_, _*_};
 ghost use lib.ListN.{length, replicate};
@@ -29,7 +26,7 @@ fn wide(b: u8) -> u16
 }
 
 // Two bytes as a number, low byte first.
-fn number(low: u8, high: u8) -> u16
+pub fn number(low: u8, high: u8) -> u16
     ensures { λ r. ⌜ r ≡ low + 256 * high ⌝ }
 {
     wide(low) + 256 * wide(high)

@@ -1,5 +1,5 @@
 // The checks of the three notations on bad input: what was tried and what was answered, a line each.
-use records::check::check_records;
+use checks::check_records;
 use records::put_record;
 use rules::Notation;
 use rules::Verdict;

@@ -1,6 +1,6 @@
 // Relative jumps (2.2): a base whose jumps are absolute to one whose jumps are relative, and back.
-use records::check::check_base;
-use records::check::check_relative;
+use checks::check_base;
+use checks::check_relative;
 use records::kind_at;
 use records::put_record;
 use records::x_at;

@@ -20,15 +20,15 @@ use Rattle.rules.specs.Nesting.{Bracket, opener, middle, closer, alone, bracket
 use Rattle.rules.specs.Partners.{Role, opens, parts, ends, other, roleOf, role}
 use Rattle.rules.proofs.Records.{ops-getD, ops-drop, ops-end}
 use Rattle.rules.proofs.Partners.{roleOfKind, ops-role}
-use Rattle.shape.specs.declared.partners.Sort as said
-use Rattle.shape.specs.declared.partners.Sort.the-variants.{Conditional, Loop}
+use Rattle.partners.specs.declared.Sort as said
+use Rattle.partners.specs.declared.Sort.the-variants.{Conditional, Loop}
 use Rattle.shape.specs.declared.nesting.Start.{Start}
 use Rattle.shape.specs.declared.nesting.Start.the-variants as start
 use Rattle.shape.specs.declared.nesting.Read.{Read}
 use Rattle.shape.specs.declared.nesting.Read.the-variants.{To, Misfit, Open}
 use Rattle.shape.specs.declared.nesting.Behind.{Behind}
 use Rattle.shape.specs.declared.nesting.Behind.the-variants as behind
-use Rattle.shape.specs.Searching.{sortOf}
+use Rattle.partners.specs.Searching.{sortOf}
 use Rattle.shape.specs.Reading.{startOf, behindBy, behindOf, run, Shut, bracketAt, Passes, Fails, StaysOpen, BodyTo, BodyRead, ItemRead}
 
 -- ## Reading by places

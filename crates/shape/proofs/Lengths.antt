@@ -23,8 +23,8 @@ use Rattle.rules.specs.Skip.{addedBy, added, adding, plainTest, skipFrom, skip,
 use Rattle.rules.proofs.Records.{recordAt, ops-length, ops-drop, ops-end}
 use Rattle.rules.proofs.Instructions.{tabulated}
 use Rattle.rules.proofs.Length.{onceOf, returnOf, added-kind, ones, returns, converted-counts, ones-here, returns-here, added-here}
-use Rattle.records.specs.Entries.{entryOf}
-use Rattle.records.specs.declared.table.Entry.the-variants.{Listed, Unlisted}
+use Rattle.checks.specs.Entries.{entryOf}
+use Rattle.checks.specs.declared.table.Entry.the-variants.{Listed, Unlisted}
 use Rattle.shape.specs.declared.skip.Column.{Column}
 use Rattle.shape.specs.declared.skip.Column.the-variants.{Once, Each}
 use Rattle.shape.specs.Length.{placesOf, totalOf, addingKind, testKind, baseLength}

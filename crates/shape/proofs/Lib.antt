@@ -1,5 +1,3 @@
-pub mod Searching
-pub mod Targets
 pub mod Bodies
 pub mod Lengths
 pub mod Verdicts

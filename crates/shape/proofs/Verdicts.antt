@@ -1,4 +1,4 @@
--- The verdict on a routine: what records::check finds, then refusals 5 to 7.
+-- The verdict on a routine: what `checks` finds, then refusals 5 to 7.
 --     check-refused, check-on, not-long     after refusals 1 to 4
 --     nesting-refused, skip-refused, growth-refused, shape-accepted     5, 6 and 7
 use mathlib.Core.Path.{_≡_, refl, _∙_}

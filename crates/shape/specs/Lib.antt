@@ -1,4 +1,3 @@
-pub mod Searching
 pub mod Reading
 pub mod Length
 pub mod Checking

@@ -9,7 +9,7 @@ use Rattle.rules.specs.Nesting.{Bracket, opener, middle, closer, alone, bracket
 use Rattle.rules.specs.Partners as partners
 use Rattle.rules.specs.Partners.{opens, parts, ends, other}
 use Rattle.rules.proofs.Partners.{roleOfKind}
-use Rattle.shape.specs.declared.partners.Sort.the-variants.{Conditional, Loop}
+use Rattle.partners.specs.declared.Sort.the-variants.{Conditional, Loop}
 use Rattle.shape.specs.declared.nesting.Start.{Start}
 use Rattle.shape.specs.declared.nesting.Start.the-variants as start
 use Rattle.shape.specs.declared.nesting.Read.{Read}

@@ -2,7 +2,7 @@
 use crate::nesting::nesting_place;
 use crate::skip::base_count;
 use crate::skip::skip_place;
-use records::check::check_records;
+use checks::check_records;
 use rules::Notation;
 use rules::Refusal;
 use rules::Verdict;

@@ -1,15 +1,15 @@
 // Well-built routines. The whole routine must be one body: a body reader and an item reader call each other while the number of unread
 // records falls. There is no limit on depth.
-use crate::partners::Role;
-use crate::partners::Sort;
-use crate::partners::role_of;
+use partners::Role;
+use partners::Sort;
+use partners::role_of;
 ghost use mathlib.Core.Path.{_≡_};
 ghost use Prim.Native.Nat.{_≤_, _<_};
 ghost use Rattle.rules.specs.Record.{count};
 ghost use Rattle.rules.specs.Instruction.{ops, conditional, loop};
 ghost use Rattle.rules.specs.Nesting as rule;
 ghost use Rattle.rules.proofs.Partners.{roleOfKind};
-ghost use Rattle.shape.specs.Searching.{sortOf};
+ghost use Rattle.partners.specs.Searching.{sortOf};
 ghost use Rattle.shape.specs.Reading.{startOf, behindOf, BodyRead, ItemRead};
 
 // What a record is to a body: a header, an item alone, or a separator or an end, which starts no item.

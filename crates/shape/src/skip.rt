@@ -1,6 +1,6 @@
 // The places added in the base, refusal 6 and the converted length: all by the table.
-use records::table::Entry;
-use records::table::row_of;
+use checks::Entry;
+use checks::row_of;
 use rules::Notation;
 ghost use mathlib.Core.Path.{_≡_};
 ghost use mathlib.Core.Bool.{not, _&&_};

@@ -124,20 +124,38 @@ fn partner_cases() {
     let mut file = [0; 72];
     write(&mut file, &[13, 1, 8, 1, 10, 1, 11, 14, 1]);
     let s: &[u8] = &file;
-    found(b"end of the loop at 1: ", shape::loop_end(s, 1));
-    found(b"header of the loop end at 8: ", shape::loop_header(s, 8));
-    found(b"separator of the header at 3: ", shape::separator_of(s, 3));
-    found(b"end of the header at 3: ", shape::conditional_end(s, 3));
-    found(b"end of the separator at 5: ", shape::conditional_end(s, 5));
-    found(b"header of the end at 7: ", shape::conditional_header(s, 7));
-    found(b"separator of the end at 7: ", shape::item_separator(s, 7));
-    found(b"loop header of the end at 7: ", shape::loop_header(s, 7));
-    found(b"header of record 0: ", shape::conditional_header(s, 0));
-    found(b"separator of record 0: ", shape::separator_of(s, 0));
-    found(b"end of record 100: ", shape::conditional_end(s, 100));
+    found(b"end of the loop at 1: ", partners::loop_end(s, 1));
+    found(
+        b"header of the loop end at 8: ",
+        partners::loop_header(s, 8),
+    );
+    found(
+        b"separator of the header at 3: ",
+        partners::separator_of(s, 3),
+    );
+    found(b"end of the header at 3: ", partners::conditional_end(s, 3));
+    found(
+        b"end of the separator at 5: ",
+        partners::conditional_end(s, 5),
+    );
+    found(
+        b"header of the end at 7: ",
+        partners::conditional_header(s, 7),
+    );
+    found(
+        b"separator of the end at 7: ",
+        partners::item_separator(s, 7),
+    );
+    found(
+        b"loop header of the end at 7: ",
+        partners::loop_header(s, 7),
+    );
+    found(b"header of record 0: ", partners::conditional_header(s, 0));
+    found(b"separator of record 0: ", partners::separator_of(s, 0));
+    found(b"end of record 100: ", partners::conditional_end(s, 100));
     found(
         b"separator of the end at 100: ",
-        shape::item_separator(s, 100),
+        partners::item_separator(s, 100),
     );
 }
 
@@ -145,14 +163,14 @@ fn label_cases() {
     let mut file = [0; 32];
     write(&mut file, &[7, 5, 1, 5]);
     let s: &[u8] = &file;
-    found(b"##[1]: ", shape::target(s, 1));
-    found(b"##[2]: ", shape::target(s, 2));
-    found(b"##[1][1]: ", shape::target2(s, 1, 1));
+    found(b"##[1]: ", partners::target(s, 1));
+    found(b"##[2]: ", partners::target(s, 2));
+    found(b"##[1][1]: ", partners::target2(s, 1, 1));
     found(
         b"##[1][1] with one [1]: ",
-        shape::target2(records_of(s, 3), 1, 1),
+        partners::target2(records_of(s, 3), 1, 1),
     );
-    found(b"##[2][1]: ", shape::target2(s, 2, 1));
+    found(b"##[2][1]: ", partners::target2(s, 2, 1));
 }
 
 fn main() {

@@ -1,0 +1,183 @@
+// Refusals 1 to 4, for a routine, a base and a relative base alike, and the constant table that they read.
+mod table;
+
+use records::kind_at;
+use records::x_at;
+use records::y_at;
+use rules::Notation;
+use rules::Refusal;
+use rules::Row;
+use rules::Verdict;
+pub use table::Entry;
+pub use table::row_of;
+ghost use mathlib.Core.Path.{_≡_};
+ghost use Prim.Native.Nat.{_*_, _≤_, _<_};
+ghost use mathlib.Core.Bool.{_&&_};
+ghost use mathlib.Core.Option.{some};
+ghost use lib.ListN.{length, drop};
+ghost use Rattle.rules.specs.Record.{recordOf, rec, spareZero, count};
+ghost use Rattle.rules.specs.Checks.{most, inRow, stackAction, hasStack, kindFault, fieldFault, faultFrom};
+ghost use Rattle.rules.specs.Refusals.{verdictOf};
+ghost use Rattle.rules.specs.Answers.{checkRecords};
+
+// A routine has 0 to 512 records, a base or relative base 0 to 4,096.
+fn most_records(notation: Notation) -> usize
+    ensures { λ r. ⌜ r ≡ most notation ⌝ }
+{
+    match notation {
+        Notation::Routine => 512,
+        Notation::Base => 4096,
+        Notation::Relative => 4096,
+    }
+}
+
+// Bytes 1, 6 and 7 of the record after the first k are zero.
+fn spare_zero(s: &[u8], k: usize) -> bool
+    requires { ⌜ k < count (now s) ⌝ }
+    ensures { λ r. ⌜ r ≡ spareZero (drop (8 * k) (now (s .entry))) ⌝ }
+{
+    let at = 8 * k;
+    if s[at + 1] != 0 {
+        return false;
+    }
+    if s[at + 6] != 0 {
+        return false;
+    }
+    s[at + 7] == 0
+}
+
+// x and y are in the row's ranges.
+fn in_row(row: Row, kind: u8, x: u16, y: u16) -> bool
+    ensures { λ r. ⌜ r ≡ inRow (some row) (rec kind x y) ⌝ }
+{
+    if x < row.xmin {
+        return false;
+    }
+    if row.xmax < x {
+        return false;
+    }
+    if y < row.ymin {
+        return false;
+    }
+    y <= row.ymax
+}
+
+// x is one of the counter stack's own actions, and y what that action takes.
+fn stack_action(kind: u8, x: u16, y: u16) -> bool
+    ensures { λ r. ⌜ r ≡ stackAction (rec kind x y) ⌝ }
+{
+    if kind == 0 {
+        return false;
+    }
+    if 3 < kind {
+        return false;
+    }
+    match x {
+        1001 => y <= 9999,
+        1003 => y <= 9999,
+        1002 => y == 0,
+        _ => false,
+    }
+}
+
+fn has_stack(notation: Notation) -> bool
+    ensures { λ r. ⌜ r ≡ hasStack notation ⌝ }
+{
+    match notation {
+        Notation::Routine => false,
+        Notation::Base => true,
+        Notation::Relative => true,
+    }
+}
+
+// In a base and a relative base x may also be one of the counter stack's own actions.
+fn own_action(notation: Notation, kind: u8, x: u16, y: u16) -> bool
+    ensures { λ r. ⌜ r ≡ (hasStack notation && stackAction (rec kind x y)) ⌝ }
+{
+    if has_stack(notation) {
+        stack_action(kind, x, y)
+    } else {
+        false
+    }
+}
+
+// 3: a kind not of this notation, or byte 1, 6 or 7 not zero, in the record after the first k.
+fn kind_fault(notation: Notation, s: &[u8], k: usize) -> bool
+    requires { ⌜ k < count (now s) ⌝ }
+    ensures { λ r. ⌜ r ≡ kindFault notation (drop (8 * k) (now (s .entry))) ⌝ }
+{
+    let entry = row_of(notation, kind_at(s, k + 1));
+    match entry {
+        Entry::Unlisted => true,
+        Entry::Listed(_) => !spare_zero(s, k),
+    }
+}
+
+// 4: x or y outside its range.
+fn field_fault(notation: Notation, kind: u8, x: u16, y: u16) -> bool
+    ensures { λ r. ⌜ r ≡ fieldFault notation (rec kind x y) ⌝ }
+{
+    let entry = row_of(notation, kind);
+    match entry {
+        Entry::Listed(row) => if in_row(row, kind, x, y) {
+            false
+        } else {
+            !own_action(notation, kind, x, y)
+        },
+        Entry::Unlisted => !own_action(notation, kind, x, y),
+    }
+}
+
+// The lowest record with fault 3 or 4, 3 first within it, of the n that the file has.
+fn lowest_fault(notation: Notation, s: &[u8], n: usize) -> Verdict
+    requires { ⌜ n ≡ count (now s) ⌝ }
+    ensures { λ r. ⌜ r ≡ verdictOf (faultFrom notation 1 n (now (s .entry))) n ⌝ }
+{
+    let mut k = 0;
+    while k < n {
+        if kind_fault(notation, s, k) {
+            return Verdict::Refused(Refusal::Kind(k + 1));
+        }
+        if field_fault(notation, kind_at(s, k + 1), x_at(s, k + 1), y_at(s, k + 1)) {
+            return Verdict::Refused(Refusal::Field(k + 1));
+        }
+        k += 1;
+    }
+    Verdict::Accepted(n)
+}
+
+// Refusals 1 to 4 of a file in a notation, in the paper's order; else how many records it has.
+pub fn check_records(notation: Notation, s: &[u8]) -> Verdict
+    ensures { λ r. ⌜ r ≡ checkRecords notation (now (s .entry)) ⌝ }
+{
+    let length = s.len();
+    if length % 8 != 0 {
+        return Verdict::Refused(Refusal::Ragged);
+    }
+    let n = length / 8;
+    if most_records(notation) < n {
+        return Verdict::Refused(Refusal::Long);
+    }
+    lowest_fault(notation, s, n)
+}
+
+// Checks 1 to 4 of a routine.
+pub fn check_routine_records(s: &[u8]) -> Verdict
+    ensures { λ r. ⌜ r ≡ checkRecords Notation.Routine (now (s .entry)) ⌝ }
+{
+    check_records(Notation::Routine, s)
+}
+
+// The checks of a base.
+pub fn check_base(s: &[u8]) -> Verdict
+    ensures { λ r. ⌜ r ≡ checkRecords Notation.Base (now (s .entry)) ⌝ }
+{
+    check_records(Notation::Base, s)
+}
+
+// The checks of a relative base.
+pub fn check_relative(s: &[u8]) -> Verdict
+    ensures { λ r. ⌜ r ≡ checkRecords Notation.Relative (now (s .entry)) ⌝ }
+{
+    check_records(Notation::Relative, s)
+}

@@ -1,0 +1,8 @@
+use borrow.Author.Needs.{needs}
+use Rattle.rules.specs.Labels as labels
+use Rattle.partners.proofs.labels.target.Statement.{statement}
+use Rattle.partners.proofs.labels.target.Tie as tie
+
+pub target-spec : {M : Type 1} → statement M
+unfolding labels.target
+target-spec = tie.close (tie.spec (λ c κs. search needs) (λ c. c .label-after .ensures))

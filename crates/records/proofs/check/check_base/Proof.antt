@@ -1,6 +1,0 @@
-use borrow.Author.Needs.{needs}
-use Rattle.records.proofs.check.check_base.Statement.{statement}
-use Rattle.records.proofs.check.check_base.Tie as tie
-
-pub check-base-spec : {M : Type 1} → statement M
-check-base-spec = tie.close (tie.spec (λ c κs. search needs) (λ c. c .check-records .ensures))
