@@ -1,6 +1,7 @@
 -- Following a form.
 --     Reach, take-reach          a sign that is there takes a byte and stays in the text; one that is not stops in the text
---     follow-sign, follow-end    the signs of a form, one after the other
+--     sign-some, sign-none, sign-eight     the signs of a form, one after the other, eight at most
+--     follow-sign, follow-end    one of them followed, and the end of the form
 --     best-out                   past the end of a text no form is followed
 use mathlib.Core.Path.{_≡_, refl, sym, ap, _∙_}
 use mathlib.Core.Bool.{Bool, true, false, cond, _||_}
@@ -98,16 +99,22 @@ none-left (b ∷ f) (suc j) n h = none-left f j (above b f n .1) h
 pub sign-eight : (i j : ℕ) → (byteAt (signsOf i) j ≡ 0 → ⊥) → j < 8
 sign-eight i j h = omega (arith, byte-there (signsOf i) j h, leb→le (length (signsOf i)) 8 (each short tt ([] ∷ forms) i tt))
 
+pub sign-some : (i j : ℕ) → (byteAt (signsOf i) j ≡ 0 → ⊥) → drop j (signsOf i) ≡ byteAt (signsOf i) j ∷ drop (j + 1) (signsOf i)
+sign-some i j h = rw (add-one j) (drop-cons (signsOf i) j 0 (byte-there (signsOf i) j h))
+
+pub sign-none : (i j : ℕ) → byteAt (signsOf i) j ≡ 0 → drop j (signsOf i) ≡ []
+sign-none i j h = none-left (signsOf i) j (all-positive i) h
+
 module _ (i : ℕ) (w : List ℕ) (here x y j : ℕ) where
   pub follow-sign : (p : ℕ) → p ≡ byteAt (signsOf i) j → (p ≡ 0 → ⊥)
       → follow i (drop j (signsOf i)) w here x y
       ≡ going (takeSign p w here) (λ e. follow i (drop (j + 1) (signsOf i)) w e (xAt p here x) (yAt p here y)) (λ e. fit i false e x y)
   unfolding follow
-  follow-sign p h n = rw (h, add-one j, drop-cons (signsOf i) j 0 (byte-there (signsOf i) j (λ z. n (h ∙ z))))
+  follow-sign p h n = rw (h, sign-some i j (λ z. n (h ∙ z)))
 
   pub follow-end : byteAt (signsOf i) j ≡ 0 → follow i (drop j (signsOf i)) w here x y ≡ ending i w here x y
   unfolding follow
-  follow-end h = rw (none-left (signsOf i) j (all-positive i) h)
+  follow-end h = rw (sign-none i j h)
 
 -- past the end of the text
 module _ (w : List ℕ) (at : ℕ) (out : length w < at) where

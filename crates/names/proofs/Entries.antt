@@ -3,6 +3,8 @@
 --     entry-on, entry-off, entry-end     an entry compared with a name: one byte more, one that differs, the end
 --     place-on, place-off   the entry looked for, or the search goes on behind it
 --     entry-of              an entry by its number
+--     name-out, name-at     the name of an entry, by its number
+--     name-part     its bytes in the list
 --     proper-out, proper-none, proper-some     whether an entry is a proper name
 use mathlib.Core.Path.{_≡_, refl, sym, ap, _∙_}
 use mathlib.Core.Bool.{Bool, true, false, _&&_}
@@ -12,13 +14,14 @@ use native.Mathlib.Numerals.{add-one}
 use native.Mathlib.Omega.{arith}
 use lib.ListN.{length, getD, take, drop, length-drop, drop-of-length-le}
 use lib.Seq.{getD-take, getD-drop, drop-drop, drop-nil, length-take-le}
-use lib.Dec.{leb}
-use borrow.Author.Tests.{le-leb}
+use lib.Dec.{leb, ltb}
+use borrow.Author.Tests.{le-leb, ltb-true, ltb-false}
 use Rattle.text.specs.declared.Sort.the-variants.{Named}
 use Rattle.text.specs.Bytes.{byteAt, run, span}
 use Rattle.text.specs.Names.{nameAt, same, placeFrom, entriesOf, entries, padded, entry, nameOf, proper}
-use Rattle.forms.proofs.Runs.{past-end, span-off}
-use Rattle.names.proofs.Same.{same-on, same-off, run-most, run-same, padded-length}
+use Rattle.forms.proofs.Tests.{by-test}
+use Rattle.forms.proofs.Runs.{past-end, run-off, span-off, span-within}
+use Rattle.names.proofs.Same.{same-on, same-off, run-most, run-take, run-same, padded-length}
 
 module _ (l : List ℕ) (from : ℕ) (room : from + 16 ≤ length l) where
   pub entry-length : length (take 16 (drop from l)) ≡ 16
@@ -85,6 +88,12 @@ entry-past (suc n) l zero h = absurd (omega arith)
 entry-past (suc n) l (suc k) h = entry-past n (drop 16 l) k (omega arith)
 
 module _ (l : List ℕ) (e k : ℕ) (ek : k ≡ e - 1) where
+  pub name-out : length l / 16 ≤ k → nameOf (entries l) e ≡ []
+  name-out h = rw (← ek, entry-past (length l / 16) l k h) (run-off Named [] 0 16 (past-end Named [] 0 (omega arith)))
+
+  pub name-at : k < length l / 16 → nameOf (entries l) e ≡ nameAt l (16 * k)
+  name-at h = rw (← ek, entry-of (length l / 16) l k h) (entry-name l (16 * k) (omega arith))
+
   pub proper-out : length l / 16 ≤ k → proper (entries l) e ≡ false
   unfolding proper
   proper-out h = rw (← ek, entry-past (length l / 16) l k h, span-off Named [] 0 16 (past-end Named [] 0 (omega arith)))
@@ -99,3 +108,12 @@ module _ (l : List ℕ) (e k : ℕ) (ek : k ≡ e - 1) where
 
     pub proper-some : (span Named l (16 * k) 16 ≡ 0 → ⊥) → proper (entries l) e ≡ same (padded 16 (nameAt l (16 * k))) (take 16 (drop (16 * k) l))
     proper-some z = proper-at ∙ rw (le-leb 1 (span Named l (16 * k) 16) (omega (arith, z)))
+
+-- the bytes of a name in the list
+pub name-part : (l : List ℕ) (e : ℕ) → (length (nameOf (entries l) e) ≡ 0 → ⊥)
+    → (nameOf (entries l) e ≡ take (length (nameOf (entries l) e)) (drop (16 * (e - 1)) l)) × (16 * (e - 1) + length (nameOf (entries l) e) ≤ length l)
+name-part l e z =
+    by-test (ltb (e - 1) (length l / 16))
+    (λ t. let h = name-at l e (e - 1) refl (ltb-true (e - 1) (length l / 16) t) in
+    (rw h (run-take Named l (16 * (e - 1)) 16), rw h (span-within Named l (16 * (e - 1)) 16 (omega (arith, ltb-true (e - 1) (length l / 16) t)))))
+    (λ t. absurd (z (ap length (name-out l e (e - 1) refl (ltb-false (e - 1) (length l / 16) t)))))

@@ -2,6 +2,7 @@
 --     same-on, same-off     one byte more, or one that differs
 --     same-sizes            lists of different length differ
 --     in-run, run-get       a byte of a run is one of the text
+--     run-take              a run is a part of the text
 --     run-same              runs over the same bytes are the same
 --     padded-get            padding adds zeros
 use mathlib.Core.Path.{_≡_, refl, sym, ap, _∙_}
@@ -11,7 +12,7 @@ use Prim.Native.Nat.{ℕ, zero, suc, _+_, _-_, _≤_, _<_}
 use native.Mathlib.Numerals.{add-one}
 use native.Mathlib.Omega.{arith}
 use lib.Dec.{eqb}
-use lib.ListN.{length, getD, drop, replicate, length-append, length-replicate, getD-replicate, List·getD-append, List·getD-eq-default}
+use lib.ListN.{length, getD, take, drop, replicate, length-append, length-replicate, getD-replicate, List·getD-append, List·getD-eq-default}
 use lib.Seq.{drop-cons, getD-append-add}
 use borrow.Author.Tests.{eq-eqb, ne-eqb, lt-ltb, le-ltb, ltb-true, ltb-false}
 use lib.Dec.{ltb}
@@ -19,7 +20,7 @@ use Rattle.text.specs.declared.Sort.{Sort}
 use Rattle.text.specs.Bytes.{byteAt, inSort, run, span}
 use Rattle.text.specs.Names.{same, padded}
 use Rattle.forms.proofs.Tests.{by-test, cond-has}
-use Rattle.forms.proofs.Runs.{past-end, span-off, span-within}
+use Rattle.forms.proofs.Runs.{past-end, in-text, span-off, span-within}
 
 module _ (u v : List ℕ) (m : ℕ) (hu : m < length u) (hv : m < length v) where
   pub same-on : getD u m 0 ≡ getD v m 0 → same (drop m u) (drop m v) ≡ same (drop (m + 1) u) (drop (m + 1) v)
@@ -57,6 +58,14 @@ module _ (c : Sort) (w : List ℕ) where
       by-test (inSort c (byteAt w at))
       (λ t. let r : span c w (suc at) n ≤ n = run-most (suc at) n in rw t (omega arith))
       (λ t. rw t (omega arith))
+
+  pub run-take : (at n : ℕ) → run c w at n ≡ take (span c w at n) (drop at w)
+  unfolding run
+  run-take at zero = refl
+  run-take at (suc n) =
+      by-test (inSort c (byteAt w at))
+      (λ t. rw (t, drop-cons w at 0 (in-text c w at t)) (ap (λ r. byteAt w at ∷ r) (run-take (suc at) n)))
+      (λ t. rw t)
 
   pub run-same : (u : List ℕ) (i at n : ℕ) → ((m : ℕ) → m < n → byteAt u (i + m) ≡ byteAt w (at + m)) → run c u i n ≡ run c w at n
   unfolding run

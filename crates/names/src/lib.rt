@@ -8,7 +8,7 @@ ghost use mathlib.Core.Path.{_≡_};
 ghost use Prim.Native.Nat.{_+_, _-_, _≤_};
 ghost use lib.ListN.{length, take, drop};
 ghost use Rattle.text.specs.Bytes.{byteAt, span};
-ghost use Rattle.text.specs.Names.{nameAt, numberAt, same, entries, padded, actionOf, proper};
+ghost use Rattle.text.specs.Names.{nameAt, numberAt, same, entries, padded, actionOf, nameOf, proper};
 
 // Byte number m, from 0, of the name at `at`, which has n bytes, padded with zeros.
 fn wanted(s: &[u8], at: usize, n: usize, m: usize) -> u8
@@ -73,6 +73,17 @@ pub fn is_proper(l: &[u8], e: usize) -> bool
         return false;
     }
     is_entry(l, from, wanted(l, from, n, 0), l, from, n)
+}
+
+// How many bytes the name of action e has in the list, from where its entry starts.
+pub fn name_size(l: &[u8], e: usize) -> usize
+    ensures { λ r. ⌜ r ≡ length (nameOf (entries (now (l .entry))) e) ⌝ }
+{
+    let k = one_less(e);
+    if l.len() / 16 <= k {
+        return 0;
+    }
+    span_of(Sort::Named, l, 16 * k, 16)
 }
 
 // The number whose digits start at `at`, four at most.
