@@ -140,6 +140,7 @@ Cases =
     × (reading (ascii "take;!") names (replicate 17 9) ≡ Done 2)
     × (fits (reads (replicate 513 (rec 11 0 0))) [] ≡ Refused (Earlier Long))
     × (filled (Done 1) (bytesRead (ascii "##258") names) (replicate 9 7) ≡ 4 ∷ 0 ∷ 2 ∷ 1 ∷ 0 ∷ 0 ∷ 0 ∷ 0 ∷ 7 ∷ [])
+    × (filled (Refused (Name 0)) (ascii "x") (replicate 2 7) ≡ 7 ∷ 7 ∷ [])
     × (map told (Text 5 ∷ Name 0 ∷ Earlier Long ∷ Earlier Room ∷ []) ≡ record { number = 12; place = 5 } ∷ record { number = 13; place = 0 } ∷ record { number = 2; place = 0 } ∷ record { number = 8; place = 0 } ∷ [])
     -- A routine written: instructions joined by `; `, labels as L1, L2, no leading zeros; and read again.
     × (textOf (entries names) [] ≡ [])
