@@ -1,5 +1,5 @@
 #!/usr/bin/env python3
-"""Writes NAME.routine, as bytes, for each line of routines.txt."""
+"""Writes NAME.routine, as bytes, for each line of routines.txt; a line that names a base is written as it is named."""
 import re
 from pathlib import Path
 
@@ -59,4 +59,4 @@ def routine(text):
 for line in (HERE / "routines.txt").read_text().splitlines():
     if line and not line.startswith("#"):
         name, text = line.split(":", 1)
-        (HERE / f"{name}.routine").write_bytes(routine(text))
+        (HERE / (name if name.endswith(".base") else f"{name}.routine")).write_bytes(routine(text))

@@ -41,7 +41,12 @@ static const char *in_words(uint32_t refusal)
                "add or remove the missing part";
     case QH_SKIP:
         return "a plain test stands directly before a block, loop, call or return; "
-               "put another record between them";
+               "put a call or return into a block with two arms, +a1{; R##k; }{; }; "
+               "before a block or loop give the test the other sign and put a jump "
+               "behind it to the record after the header, -a1; ##k; +a2{; then raise "
+               "the numbers of jumps and calls to records behind those put in; a label "
+               "or an action between would be no help: what follows is then done on "
+               "yes and on no";
     case QH_GROWTH:
         return "the base would have more than 4,096 records; "
                "use fewer returns, calls, blocks or loops";

@@ -1,10 +1,12 @@
 #!/bin/sh
-# Builds the C example against the static library and compares what it prints with lower.expected.
+# Builds the C examples against the static library and compares what each prints with its .expected file.
 set -eu
 cd "$(dirname "$0")/../.."
 made=$(mktemp -d)
 trap 'rm -rf "$made"' EXIT
-cc -std=c99 -Wall -Wextra -Werror -Iinclude examples/c/lower.c -Ltarget/staticlib -labi -o "$made/lower"
-"$made/lower" > "$made/printed"
-diff examples/c/lower.expected "$made/printed"
-echo "examples/c/lower: as expected"
+for name in lower incident; do
+    cc -std=c99 -Wall -Wextra -Werror -Iinclude "examples/c/$name.c" -Ltarget/staticlib -labi -o "$made/$name"
+    "$made/$name" > "$made/printed"
+    diff "examples/c/$name.expected" "$made/printed"
+    echo "examples/c/$name: as expected"
+done

@@ -13,7 +13,7 @@ ghost use Rattle.rules.specs.Run.{statusNumber};
 ghost use Rattle.rules.specs.Record.{records};
 ghost use Rattle.rules.specs.Relative.{toRelative, toAbsolute};
 ghost use Rattle.rules.specs.Answers.{checkRecords, checkRoutine, relating, absoluting, runRoutine, runBase, stepRoutine, stepBase};
-ghost use Rattle.abi.specs.Told.{in32, verdictTold, stateTold, stateGiven, ranTold, Converts, Translates, Calls, Lists};
+ghost use Rattle.abi.specs.Exported.{in32, verdictTold, stateTold, stateGiven, ranTold, Converts, Translates, Calls, Lists};
 
 #[repr(C)]
 pub struct QhVerdict {

@@ -3,11 +3,11 @@ use mathlib.Core.Path.{_≡_, refl, sym, ap, _∙_}
 use Prim.Native.Nat.{ℕ, zero, suc, _+_, _-_, _*_, _≤_, _<_}
 use native.Mathlib.Omega.{arith}
 use native.Mathlib.Numerals.{add-one}
-use mathlib.Core.Bool.{true, false}
-use mathlib.Core.Option.{Option, none, some}
+use mathlib.Core.Bool.{Bool, true, false, not, _&&_}
+use mathlib.Core.Option.{Option, some}
 use mathlib.Core.List.{List}
 use borrow.Author.Tests.{le-leb, lt-leb}
-use lib.ListN.{drop}
+use lib.ListN.{drop, getD}
 use lib.Seq.{drop-drop}
 use Rattle.rules.specs.declared.Notation.{Notation}
 use Rattle.rules.specs.declared.Row.{Row}
@@ -15,14 +15,13 @@ use Rattle.rules.specs.declared.Refusal.the-variants.{Kind, Field}
 use Rattle.rules.specs.declared.Verdict.{Verdict}
 use Rattle.rules.specs.declared.Verdict.the-variants.{Accepted, Refused}
 use Rattle.rules.specs.Numbers.{names}
-use Rattle.rules.specs.Record.{recordOf, count}
+use Rattle.rules.specs.Record.{Rec, recordOf}
+use Rattle.rules.specs.Table.{rows, relativeRows, rowOf}
 use Rattle.rules.specs.Refusals.{when, orElse, verdictOf}
 use Rattle.rules.specs.Checks.{listed, kindFault, fieldFault, fault, faultFrom}
 use Rattle.rules.proofs.Records.{record-drop}
-use Rattle.records.specs.Reading.{recAt}
-use Rattle.checks.specs.Entries.{entryOf}
-use Rattle.checks.specs.declared.table.Entry.the-variants.{Listed, Unlisted}
-use Rattle.records.proofs.Reading.{rec-at}
+use Rattle.checks.specs.Ranges.{outside}
+use Rattle.checks.proofs.Rows.{Found, found}
 
 -- 1..n holds a number that is not 0 and not above n
 pub names-in : (n k : ℕ) → ¬ (k ≡ 0) → k ≤ n → names n k ≡ true
@@ -39,9 +38,31 @@ unfolding names
 names-above n zero h = absurd (omega arith)
 names-above n (suc k) h = lt-leb (suc k) n h
 
--- the record after the first k
-pub rec-drop : (s : List ℕ) (k : ℕ) → k < count s → recAt s (k + 1) ≡ recordOf (drop (8 * k) s)
-rec-drop s k h = let e : k + 1 - 1 ≡ k = omega arith in rw e at (rec-at s (k + 1) (λ z. omega arith) (omega arith)) ∙ sym (record-drop s k)
+-- ## The record after the first k
+
+module _ (nt : Notation) (s : List ℕ) (k : ℕ) where
+  -- Without fault 3 its kind is listed ..
+  pub kind-listed : kindFault nt (drop (8 * k) s) ≡ false → Found nt (getD s (8 * k) 0)
+  unfolding kindFault
+  kind-listed e = found nt (getD s (8 * k) 0) (ap (λ (r : Rec). listed (rowOf nt (r .kind))) (sym (record-drop s k)) ∙ by _ _ e)
+    where
+      by : (a b : Bool) → not (a && b) ≡ false → a ≡ true
+      by true b e = refl
+      by false b e = sym e
+
+  -- .. and fault 4 is that of the kind's row, read from the one table or from the other.
+  field-by : {w : Row} → rowOf nt (getD s (8 * k) 0) ≡ some w → outside nt (some w) (recordOf (drop (8 * k) s)) ≡ fieldFault nt (recordOf (drop (8 * k) s))
+  unfolding outside fieldFault
+  field-by e = ap (λ (o : Option Row). outside nt o (recordOf (drop (8 * k) s))) (sym e ∙ ap (λ (r : Rec). rowOf nt (r .kind)) (sym (record-drop s k)))
+
+  module _ (f : Found nt (getD s (8 * k) 0)) (z : Row) {L : List Row} where
+    pub field-shared : L ≡ rows → getD s (8 * k) 0 ≤ 16 → outside nt (some (getD L (getD s (8 * k) 0 - 1) z)) (recordOf (drop (8 * k) s)) ≡ fieldFault nt (recordOf (drop (8 * k) s))
+    field-shared e l = rw e (field-by (f .shared l z))
+
+    pub field-own : L ≡ relativeRows → 16 < getD s (8 * k) 0 → outside nt (some (getD L (getD s (8 * k) 0 - 17) z)) (recordOf (drop (8 * k) s)) ≡ fieldFault nt (recordOf (drop (8 * k) s))
+    field-own e l = rw e (field-by (f .own l z))
+
+-- ## From the left
 
 module _ (nt : Notation) (s : List ℕ) (n : ℕ) where
   -- the answer that the records after the first k give
@@ -75,23 +96,3 @@ module _ (nt : Notation) (s : List ℕ) (n : ℕ) where
   pub ends : (k : ℕ) → n ≤ k → answerFrom k ≡ Accepted n
   unfolding answerFrom faultFrom verdictOf
   ends k h = let e : n - k ≡ 0 = omega arith in rw e
-
--- what a notation lists is what the code was handed
-pub listed-not : (o : Option Row) → entryOf o ≡ Unlisted → listed o ≡ false
-unfolding entryOf listed
-listed-not none e = refl
-listed-not (some row) e = absurd (let z : _≡_ {A = ℕ} 0 1 = cc in omega arith)
-
-pub listed-is : (o : Option Row) (row : Row) → entryOf o ≡ Listed row → o ≡ some row
-unfolding entryOf
-listed-is none row e = absurd (let z : _≡_ {A = ℕ} 0 1 = cc in omega arith)
-listed-is (some r) row e = ap some (cc)
-
-pub listed-yes : (o : Option Row) (row : Row) → entryOf o ≡ Listed row → listed o ≡ true
-unfolding listed
-listed-yes o row e = rw (listed-is o row e)
-
-pub unlisted-is : (o : Option Row) → entryOf o ≡ Unlisted → o ≡ none
-unfolding entryOf
-unlisted-is none e = refl
-unlisted-is (some row) e = absurd (let z : _≡_ {A = ℕ} 0 1 = cc in omega arith)

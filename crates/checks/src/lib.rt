@@ -1,22 +1,22 @@
 // Refusals 1 to 4, for a routine, a base and a relative base alike, and the constant table that they read.
 mod table;
 
-use records::kind_at;
-use records::x_at;
-use records::y_at;
+use crate::table::own_rows;
+use records::number;
 use rules::Notation;
 use rules::Refusal;
 use rules::Row;
 use rules::Verdict;
-pub use table::Entry;
-pub use table::row_of;
+pub use table::all_rows;
+pub use table::is_listed;
 ghost use mathlib.Core.Path.{_≡_};
-ghost use Prim.Native.Nat.{_*_, _≤_, _<_};
+ghost use Prim.Native.Nat.{_*_, _<_};
 ghost use mathlib.Core.Bool.{_&&_};
 ghost use mathlib.Core.Option.{some};
-ghost use lib.ListN.{length, drop};
+ghost use lib.ListN.{drop};
 ghost use Rattle.rules.specs.Record.{recordOf, rec, spareZero, count};
-ghost use Rattle.rules.specs.Checks.{most, inRow, stackAction, hasStack, kindFault, fieldFault, faultFrom};
+ghost use Rattle.rules.specs.Checks.{most, inRow, stackAction, hasStack, kindFault, faultFrom};
+ghost use Rattle.checks.specs.Ranges.{outside};
 ghost use Rattle.rules.specs.Refusals.{verdictOf};
 ghost use Rattle.rules.specs.Answers.{checkRecords};
 
@@ -47,8 +47,8 @@ fn spare_zero(s: &[u8], k: usize) -> bool
 }
 
 // x and y are in the row's ranges.
-fn in_row(row: Row, kind: u8, x: u16, y: u16) -> bool
-    ensures { λ r. ⌜ r ≡ inRow (some row) (rec kind x y) ⌝ }
+fn in_row(row: Row, x: u16, y: u16) -> bool
+    ensures { λ r. ⌜ r ≡ inRow (some row) (rec 0 x y) ⌝ }
 {
     if x < row.xmin {
         return false;
@@ -106,39 +106,48 @@ fn kind_fault(notation: Notation, s: &[u8], k: usize) -> bool
     requires { ⌜ k < count (now s) ⌝ }
     ensures { λ r. ⌜ r ≡ kindFault notation (drop (8 * k) (now (s .entry))) ⌝ }
 {
-    let entry = row_of(notation, kind_at(s, k + 1));
-    match entry {
-        Entry::Unlisted => true,
-        Entry::Listed(_) => !spare_zero(s, k),
+    if is_listed(notation, s[8 * k]) {
+        !spare_zero(s, k)
+    } else {
+        true
     }
 }
 
-// 4: x or y outside its range.
-fn field_fault(notation: Notation, kind: u8, x: u16, y: u16) -> bool
-    ensures { λ r. ⌜ r ≡ fieldFault notation (rec kind x y) ⌝ }
+// 4: x or y outside its range, in the record after the first k, whose kind has this row.
+fn field_fault(notation: Notation, row: Row, s: &[u8], k: usize) -> bool
+    requires { ⌜ k < count (now s) ⌝ }
+    ensures { λ r. ⌜ r ≡ outside notation (some row) (recordOf (drop (8 * k) (now (s .entry)))) ⌝ }
 {
-    let entry = row_of(notation, kind);
-    match entry {
-        Entry::Listed(row) => if in_row(row, kind, x, y) {
-            false
-        } else {
-            !own_action(notation, kind, x, y)
-        },
-        Entry::Unlisted => !own_action(notation, kind, x, y),
+    let at = 8 * k;
+    let x = number(s[at + 2], s[at + 3]);
+    let y = number(s[at + 4], s[at + 5]);
+    if in_row(row, x, y) {
+        false
+    } else {
+        !own_action(notation, s[at], x, y)
     }
 }
 
-// The lowest record with fault 3 or 4, 3 first within it, of the n that the file has.
+// The lowest record with fault 3 or 4, 3 first within it, of the n that the file has. The tables are made once, before the loop, and a
+// record's row is looked up here, not in a function of its own, which would make its table at every look.
 fn lowest_fault(notation: Notation, s: &[u8], n: usize) -> Verdict
     requires { ⌜ n ≡ count (now s) ⌝ }
     ensures { λ r. ⌜ r ≡ verdictOf (faultFrom notation 1 n (now (s .entry))) n ⌝ }
 {
+    let rows = all_rows();
+    let own = own_rows();
     let mut k = 0;
     while k < n {
         if kind_fault(notation, s, k) {
             return Verdict::Refused(Refusal::Kind(k + 1));
         }
-        if field_fault(notation, kind_at(s, k + 1), x_at(s, k + 1), y_at(s, k + 1)) {
+        let kind = s[8 * k] as usize;
+        let outside = if kind <= 16 {
+            field_fault(notation, rows[kind - 1], s, k)
+        } else {
+            field_fault(notation, own[kind - 17], s, k)
+        };
+        if outside {
             return Verdict::Refused(Refusal::Field(k + 1));
         }
         k += 1;
@@ -159,13 +168,6 @@ pub fn check_records(notation: Notation, s: &[u8]) -> Verdict
         return Verdict::Refused(Refusal::Long);
     }
     lowest_fault(notation, s, n)
-}
-
-// Checks 1 to 4 of a routine.
-pub fn check_routine_records(s: &[u8]) -> Verdict
-    ensures { λ r. ⌜ r ≡ checkRecords Notation.Routine (now (s .entry)) ⌝ }
-{
-    check_records(Notation::Routine, s)
 }
 
 // The checks of a base.

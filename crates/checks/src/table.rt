@@ -2,11 +2,8 @@
 use rules::Notation;
 use rules::Row;
 ghost use mathlib.Core.Path.{_≡_};
-ghost use Prim.Native.Nat.{_-_, _≤_};
-ghost use lib.ListN.{take};
-ghost use Rattle.rules.specs.Numbers.{at};
 ghost use Rattle.rules.specs.Table.{rows, relativeRows, rowOf};
-ghost use Rattle.checks.specs.Entries.{entryOf};
+ghost use Rattle.rules.specs.Checks.{listed};
 
 // An action as x: 1..999.
 const ACTION: Row = Row {
@@ -108,52 +105,37 @@ const ROWS: [Row; 16] = [
 // A relative base has forward, backward and stop, kinds 17 to 19, in place of jumps.
 const RELATIVE_ROWS: [Row; 3] = [NUMBER, NUMBER, BARE];
 
-// What a notation has for a kind.
-pub enum Entry {
-    Listed(Row),
-    Unlisted,
+// The sixteen rows. Who reads them in a loop asks for them once, before it: the row of a kind from a function of its own would make the
+// table at every look.
+pub fn all_rows() -> [Row; 16]
+    ensures { λ r. ⌜ r ≡ rows ⌝ }
+{
+    ROWS
 }
 
-// The row of a kind among the first `most` of the sixteen.
-fn row_among(most: u8, kind: u8) -> Entry
-    requires { ⌜ most ≤ 16 ⌝ }
-    ensures { λ r. ⌜ r ≡ entryOf (at (take most rows) kind) ⌝ }
+// The relative base's own three.
+pub(crate) fn own_rows() -> [Row; 3]
+    ensures { λ r. ⌜ r ≡ relativeRows ⌝ }
+{
+    RELATIVE_ROWS
+}
+
+// Whether a kind is of a notation: a routine has the first sixteen, a base the first four, a relative base the first three and its own.
+pub fn is_listed(notation: Notation, kind: u8) -> bool
+    ensures { λ r. ⌜ r ≡ listed (rowOf notation kind) ⌝ }
 {
     if kind == 0 {
-        return Entry::Unlisted;
+        return false;
     }
-    if most < kind {
-        return Entry::Unlisted;
-    }
-    let k = kind as usize - 1;
-    Entry::Listed(ROWS[k])
-}
-
-// The row of a kind among the relative base's own three.
-fn relative_row(kind: u8) -> Entry
-    ensures { λ r. ⌜ r ≡ entryOf (at relativeRows (kind - 16)) ⌝ }
-{
-    if kind < 17 {
-        return Entry::Unlisted;
-    }
-    if 19 < kind {
-        return Entry::Unlisted;
-    }
-    let k = kind as usize - 17;
-    Entry::Listed(RELATIVE_ROWS[k])
-}
-
-// The row of a kind in a notation.
-pub fn row_of(notation: Notation, kind: u8) -> Entry
-    ensures { λ r. ⌜ r ≡ entryOf (rowOf notation kind) ⌝ }
-{
     match notation {
-        Notation::Routine => row_among(16, kind),
-        Notation::Base => row_among(4, kind),
+        Notation::Routine => kind <= 16,
+        Notation::Base => kind <= 4,
         Notation::Relative => if kind <= 3 {
-            row_among(16, kind)
+            true
+        } else if kind < 17 {
+            false
         } else {
-            relative_row(kind)
+            kind <= 19
         },
     }
 }

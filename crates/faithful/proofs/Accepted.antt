@@ -1,9 +1,9 @@
 -- A file of proper records is accepted: the checks put together again. (What an accepted file is stands in `rules`' laws of refusals.)
 use mathlib.Core.Path.{_≡_, refl}
-use Prim.Native.Nat.{_≤_, _<_}
+use Prim.Native.Nat.{_≤_}
 use native.Mathlib.Omega.{arith}
 use borrow.Author.Tests.{le-ltb, eq-eqb}
-use Rattle.rules.specs.Words.{ℕ, suc, _+_, _*_, _/_, _%_, true, false, none, List, [], _∷_, _++_, length}
+use Rattle.rules.specs.Words.{ℕ, suc, _%_, true, false, none, List, [], _∷_, _++_, length}
 use Rattle.rules.specs.declared.Notation.{Notation}
 use Rattle.rules.specs.declared.Verdict.the-variants.{Accepted}
 use Rattle.rules.specs.Record.{Rec, recordBytes, bytesOf}
@@ -11,16 +11,13 @@ use Rattle.rules.specs.Table.{rowOf}
 use Rattle.rules.specs.Refusals.{when, orElse, first, verdictOf, verdict}
 use Rattle.rules.specs.Checks.{ragged, most, long, listed, kindFault, fieldFault, fault, faultFrom, recordChecks}
 use Rattle.rules.specs.Answers.{checkRecords}
-use Rattle.rules.proofs.Records.{All, Small, bytes-length, bytes-count}
+use Rattle.rules.proofs.Records.{All, Small, two-bytes, bytes-length, bytes-count}
 
 -- A record of the notation, with its fields in range.
 pub record Proper (nt : Notation) (r : Rec) : Type 0 where
   pub kind-listed : listed (rowOf nt (r .kind)) ≡ true
   pub fields-in : fieldFault nt r ≡ false
   pub small : Small r
-
-two-bytes : (x : ℕ) → x < 65536 → x % 256 + 256 * (x / 256 % 256) ≡ x
-two-bytes x h = omega arith
 
 no-fault : (nt : Notation) (i : ℕ) (r : Rec) (t : List ℕ) → Proper nt r → fault nt i (recordBytes r ++ t) ≡ none
 unfolding fault orElse when kindFault

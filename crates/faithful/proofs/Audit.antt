@@ -25,12 +25,12 @@ use Rattle.rules.specs.Checks.{recordChecks}
 use Rattle.rules.specs.Skip.{skip, convertedLength}
 use Rattle.rules.specs.Convert.{convert}
 use Rattle.rules.specs.Stack.{top}
-use Rattle.rules.specs.Step.{Deed, ask, leap, enter, leave, Mem, noReplyLeft, logIsFull, perform, Reply, did, stops, Out, go, halt, agree, branch, leaving, does, stepAt, step}
+use Rattle.rules.specs.Step.{Deed, ask, leap, enter, leave, Mem, noReplyLeft, logIsFull, perform, Acted, did, stops, Out, go, halt, agree, branch, leaving, does, stepAt, step}
 use Rattle.rules.specs.Stack.{full}
 use Rattle.rules.specs.Run.{Run, oneMore, onward, run, startOf, freshMem, runs}
 use Rattle.rules.specs.Answers.{routineChecks, short, checkRecords, checkRoutine, filled, baseRecords, baseCount, converting, Converted, Call, ran, turnedAway, unless, noState, badReply, running, runRoutine, runBase}
 use Rattle.rules.proofs.Records.{at-getD, bytes-length, ops-length}
-use Rattle.rules.proofs.Refusals.{or-none, first-append, accepted-none, accepted-count, admitted}
+use Rattle.rules.proofs.Refusals.{neither, or-none, first-append, accepted-none, accepted-count, admitted}
 use Rattle.rules.proofs.Runs.{run-steps, run-more}
 use Rattle.faithful.specs.Promises.{andThen, after, why, Based}
 use Rattle.faithful.specs.Audit.{Alike, Followed, Audited, Audit}
@@ -47,7 +47,7 @@ stopper StackFull = true
 stopper Spent = false
 
 module _ (v : Bool) (t f : ℕ) where
-  tested : (b : Bool) (w : Status) (x : Reply) → stopper w ≡ true → ((u : Status) → branch v t f x ≡ halt u → stopper u ≡ true) → (u : Status) → branch v t f (cond b (stops w) x) ≡ halt u → stopper u ≡ true
+  tested : (b : Bool) (w : Status) (x : Acted) → stopper w ≡ true → ((u : Status) → branch v t f x ≡ halt u → stopper u ≡ true) → (u : Status) → branch v t f (cond b (stops w) x) ≡ halt u → stopper u ≡ true
   unfolding branch
   tested true w x h k u e = let z : w ≡ u = cc in rw (← z) h
   tested false w x h k u e = k u e
@@ -99,7 +99,7 @@ cond-in : (n : ℕ) (b : Bool) (x y : ℕ) → x ≤ n → y ≤ n → cond b x 
 cond-in n true x y h k = h
 cond-in n false x y h k = k
 
-branch-in : (n : ℕ) (v : Bool) (t f : ℕ) (x : Reply) (j : ℕ) (m₁ : Mem) → t ≤ n → f ≤ n → branch v t f x ≡ go j m₁ → j ≤ n
+branch-in : (n : ℕ) (v : Bool) (t f : ℕ) (x : Acted) (j : ℕ) (m₁ : Mem) → t ≤ n → f ≤ n → branch v t f x ≡ go j m₁ → j ≤ n
 unfolding branch
 branch-in n v t f (did r m) j m₁ h k e = let z : cond (agree v r) t f ≡ j = cc in rw z at (cond-in n (agree v r) t f h k)
 branch-in n v t f (stops w) j m₁ h k e = absurd (let z : _≡_ {A = ℕ} 0 1 = cc in omega arith)
@@ -298,16 +298,16 @@ module _ (L : List Op) (allowed : skip L ≡ 0) (replies log : List ℕ) where
 
 -- ## The sentence
 
-module _ (s b : List ℕ) (allowed : skip (ops s) ≡ 0)
+module _ (s b : List ℕ)
     (routine-is : (replies log : List ℕ) (budget : ℕ) → runRoutine s replies log budget ≡ tells (badReply replies) log (runs (ops s) replies log budget))
     (base-is : (replies log : List ℕ) (budget : ℕ) → runBase b replies log budget ≡ tells (badReply replies) log (runs (convert (ops s)) replies log budget)) where
   turned-alike : (replies log : List ℕ) (budget other : ℕ) (r : Refusal) → runRoutine s replies log budget .answer .outcome ≡ TurnedAway r → runBase b replies log other ≡ runRoutine s replies log budget
   turned-alike replies log budget other r e =
       rw (routine-is replies log budget, base-is replies log other) (both-turned (badReply replies) log _ _ r (rw (routine-is replies log budget) at e))
 
-  followed : (replies log : List ℕ) (budget : ℕ) (w : Status) → runRoutine s replies log budget .answer .outcome ≡ Stopped w → Followed s b replies log budget w
+  followed : skip (ops s) ≡ 0 → (replies log : List ℕ) (budget : ℕ) (w : Status) → runRoutine s replies log budget .answer .outcome ≡ Stopped w → Followed s b replies log budget w
   unfolding ran
-  followed replies log budget w e =
+  followed allowed replies log budget w e =
       let k = no-bad (badReply replies) log (runs (ops s) replies log budget) w (rw (routine-is replies log budget) at e) in
       let r = routine-is replies log budget ∙ tells-ran (badReply replies) log (runs (ops s) replies log budget) (k .0) in
       let o : (q : ℕ) → runBase b replies log q ≡ ran (runs (convert (ops s)) replies log q) = λ q. base-is replies log q ∙ tells-ran (badReply replies) log (runs (convert (ops s)) replies log q) (k .0) in
@@ -320,18 +320,13 @@ module _ (s b : List ℕ) (allowed : skip (ops s) ≡ 0)
         goes-on = λ h. let a = d .spent (k .1 ∙ h) in rw (r, o (d .total)) (same-mem _ _ (a .0) (a .1));
       }
 
-or-left : (c d : Option Refusal) → orElse c d ≡ none → c ≡ none
-unfolding orElse
-or-left none d e = refl
-or-left (some r) d e = e
-
 module _ (s out work out′ work′ : List ℕ) (m : ℕ) (c : Converted s out work (Accepted m) out′ work′) where
   checked : verdict (routineChecks s ++ (when (short (baseCount s) out || short (baseCount s) work) Room ∷ [])) (baseCount s) ≡ Accepted m
   unfolding converting
   checked = sym (c .answers)
 
   unrefused : first (routineChecks s) ≡ none
-  unrefused = or-left _ _ (sym (first-append (routineChecks s) _) ∙ accepted-none _ _ checked)
+  unrefused = neither _ _ (sym (first-append (routineChecks s) _) ∙ accepted-none _ _ checked) .0
 
   approved : checkRoutine s ≡ Accepted (count s)
   unfolding checkRoutine verdict verdictOf
@@ -371,6 +366,6 @@ audit s out work out′ work′ m c =
     subst (λ (x : List ℕ). Audited s x m) (sym (the-base s out work out′ work′ m c))
     (record {
       accepted = based s out work out′ work′ m c .checked ∙ ap Accepted (sym (sized s out work out′ work′ m c));
-      refused = turned-alike s b (allowed s out work out′ work′ m c) (routine-runs s out work out′ work′ m c) (base-runs s out work out′ work′ m c);
-      follows = followed s b (allowed s out work out′ work′ m c) (routine-runs s out work out′ work′ m c) (base-runs s out work out′ work′ m c);
+      refused = turned-alike s b (routine-runs s out work out′ work′ m c) (base-runs s out work out′ work′ m c);
+      follows = followed s b (routine-runs s out work out′ work′ m c) (base-runs s out work out′ work′ m c) (allowed s out work out′ work′ m c);
     })

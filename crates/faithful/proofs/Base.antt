@@ -1,99 +1,62 @@
--- What conversion gives is accepted as a base, and read back from its bytes: its kinds are 1 to 4, its numbers fit their fields.
+-- An accepted file is that of its instructions. What conversion gives is accepted as a base, and read back from its bytes: its kinds are
+-- 1 to 4, its numbers fit their fields.
 -- From the stages, the length law and the laws of fields of `rules`.
-use mathlib.Core.Path.{_≡_, refl, sym, ap, _∙_, subst}
+use mathlib.Core.Path.{_≡_, refl, ap, _∙_, subst}
 use Prim.Native.Nat.{_≤_}
 use native.Mathlib.Omega.{arith}
 use lib.ListN.{length-map}
 use lib.Dec.{leb·zero}
-use borrow.Author.Tests.{leb-true, le-leb}
-use Rattle.rules.specs.Words.{ℕ, zero, suc, Bool, true, false, not, _&&_, _||_, Option, some, List, [], _∷_, map, getElem?, leb}
-use Rattle.rules.specs.declared.Row.{Row}
+use borrow.Author.Tests.{le-leb}
+use Rattle.rules.specs.Words.{ℕ, zero, suc, true, false, some, List, [], _∷_, map, getElem?}
+use Rattle.rules.specs.declared.Notation.{Notation}
 use Rattle.rules.specs.declared.Notation.the-variants.{Routine, Base}
 use Rattle.rules.specs.declared.Verdict.the-variants.{Accepted}
-use Rattle.rules.specs.Record.{Rec, count, records}
 use Rattle.rules.specs.Numbers.{at, names}
 use Rattle.rules.specs.Table.{rowOf}
-use Rattle.rules.specs.Instruction.{Act, outside, push, pop, compare, conditional, loop, Op, act, test, jump, label, goto, goto2, header, separator, end, call, return, actRec, encode, decode, ops, file}
-use Rattle.rules.specs.Checks.{most, listed, inRow, fieldFault}
+use Rattle.rules.specs.Instruction.{Act, outside, push, pop, compare, conditional, loop, Op, act, test, jump, label, goto, goto2, header, separator, end, call, return, actRec, encode, ops, file}
+use Rattle.rules.specs.Checks.{most, listed}
 use Rattle.rules.specs.Convert.{convert}
 use Rattle.rules.proofs.Computes.{computes}
 use Rattle.rules.proofs.Records.{All}
-use Rattle.rules.proofs.Instructions.{FitAct, Fit, accepted-back, accepted-ops, no-faults}
+use Rattle.rules.proofs.Instructions.{FitAct, Fit, Absolute, accepted-ops, accepted-records, accepted-file}
 use Rattle.rules.proofs.Length.{converted-length}
 use Rattle.rules.proofs.Fits.{stages-fit, fit-ops}
-use Rattle.faithful.specs.Promises.{Length, BaseAccepted}
-use Rattle.faithful.proofs.Inner.Turns.{rank, Good, FromOne, Numbered}
+use Rattle.faithful.specs.Promises.{Encoded, Encodings, Length, BaseAccepted}
+use Rattle.faithful.proofs.Inner.Turns.{rank, Good}
 use Rattle.faithful.proofs.Demand.{converted}
-use Rattle.rules.proofs.Refusals.{admitted}
+use Rattle.rules.proofs.Refusals.{Fine, held, admitted}
 use Rattle.faithful.proofs.Accepted.{Proper, accepted}
 use Rattle.faithful.proofs.Inner.Places.{clash}
 
--- ## An accepted routine's outside actions are numbered from 1 on
-
-first-of : (a b c d : Bool) → not (a && b && c && d || false) ≡ false → a ≡ true
-first-of true b c d h = refl
-first-of false b c d h = clash cc
-
-from-one : (k : ℕ) (a : Act) {w : Row} → rowOf Routine k ≡ some w → w .xmin ≡ 1 → fieldFault Routine (actRec k a) ≡ false → FromOne a
-unfolding computes
-from-one k (outside n) {w} r m e =
-    let f : leb (w .xmin) n ≡ true = first-of _ _ _ _ (subst (λ (o : Option Row). not (inRow o (actRec k (outside n)) || false) ≡ false) r e) in
-    leb-true 1 n (ap (λ (l : ℕ). leb l n) (sym m) ∙ f)
-from-one k (push y) r m e = tt
-from-one k pop r m e = tt
-from-one k (compare y) r m e = tt
-
-numbered-one : (o : Op) → fieldFault Routine (encode o) ≡ false → Numbered o
-unfolding computes
-numbered-one (act a) e = from-one 1 a refl refl e
-numbered-one (test true a) e = from-one 2 a refl refl e
-numbered-one (test false a) e = from-one 3 a refl refl e
-numbered-one (jump k) e = tt
-numbered-one (label s) e = tt
-numbered-one (goto s) e = tt
-numbered-one (goto2 s t) e = tt
-numbered-one (header conditional true a) e = from-one 8 a refl refl e
-numbered-one (header conditional false a) e = from-one 9 a refl refl e
-numbered-one (header loop true a) e = from-one 12 a refl refl e
-numbered-one (header loop false a) e = from-one 13 a refl refl e
-numbered-one separator e = tt
-numbered-one (end b) e = tt
-numbered-one (call k) e = tt
-numbered-one return e = tt
-
-numbered : (rs : List Rec) → All (λ r. fieldFault Routine r ≡ false) rs → All Numbered (map decode rs)
-numbered [] h = tt
-numbered (r ∷ rs) h = (numbered-one (decode r) (ap (fieldFault Routine) (accepted-back Routine tt r (h .0)) ∙ h .0), numbered rs (h .1))
-
 -- ## A record of a base
 
-proper-act : (k : ℕ) (a : Act) → rowOf Base k ≡ rowOf Base 1 → names 3 k ≡ true → FitAct a → FromOne a → Proper Base (actRec k a)
+proper-act : (k : ℕ) (a : Act) → rowOf Base k ≡ rowOf Base 1 → names 3 k ≡ true → FitAct a → Proper Base (actRec k a)
 unfolding computes
-proper-act k (outside n) r e f g = record { kind-listed = ap listed r; fields-in = rw (r, le-leb 1 n g, le-leb n 999 f); small = omega arith }
-proper-act k (push y) r e f g = record { kind-listed = ap listed r; fields-in = rw (r, e, le-leb y 9999 f); small = omega arith }
-proper-act k pop r e f g = record { kind-listed = ap listed r; fields-in = rw (r, e); small = omega arith }
-proper-act k (compare y) r e f g = record { kind-listed = ap listed r; fields-in = rw (r, e, le-leb y 9999 f); small = omega arith }
+proper-act k (outside n) r e f = record { kind-listed = ap listed r; fields-in = rw (r, le-leb 1 n (f .0), le-leb n 999 (f .1)); small = omega arith }
+proper-act k (push y) r e f = record { kind-listed = ap listed r; fields-in = rw (r, e, le-leb y 9999 f); small = omega arith }
+proper-act k pop r e f = record { kind-listed = ap listed r; fields-in = rw (r, e); small = omega arith }
+proper-act k (compare y) r e f = record { kind-listed = ap listed r; fields-in = rw (r, e, le-leb y 9999 f); small = omega arith }
 
-proper : (o : Op) → rank o ≤ 0 → Fit o → Numbered o → Proper Base (encode o)
+proper : (o : Op) → rank o ≤ 0 → Fit o → Proper Base (encode o)
 unfolding computes
-proper (act a) r f g = proper-act 1 a refl refl f g
-proper (test true a) r f g = proper-act 2 a refl refl f g
-proper (test false a) r f g = proper-act 3 a refl refl f g
-proper (jump k) r f g = record { kind-listed = refl; fields-in = rw (leb·zero k, le-leb k 9999 f); small = omega arith }
-proper (label s) r f g = absurd (omega arith)
-proper (goto s) r f g = absurd (omega arith)
-proper (goto2 s t) r f g = absurd (omega arith)
-proper (header conditional v a) r f g = absurd (omega arith)
-proper (header loop v a) r f g = absurd (omega arith)
-proper separator r f g = absurd (omega arith)
-proper (end conditional) r f g = absurd (omega arith)
-proper (end loop) r f g = absurd (omega arith)
-proper (call k) r f g = absurd (omega arith)
-proper return r f g = absurd (omega arith)
+proper (act a) r f = proper-act 1 a refl refl f
+proper (test true a) r f = proper-act 2 a refl refl f
+proper (test false a) r f = proper-act 3 a refl refl f
+proper (jump k) r f = record { kind-listed = refl; fields-in = rw (leb·zero k, le-leb k 9999 f); small = omega arith }
+proper (label s) r f = absurd (omega arith)
+proper (goto s) r f = absurd (omega arith)
+proper (goto2 s t) r f = absurd (omega arith)
+proper (header conditional v a) r f = absurd (omega arith)
+proper (header loop v a) r f = absurd (omega arith)
+proper separator r f = absurd (omega arith)
+proper (end conditional) r f = absurd (omega arith)
+proper (end loop) r f = absurd (omega arith)
+proper (call k) r f = absurd (omega arith)
+proper return r f = absurd (omega arith)
 
-all-proper : (os : List Op) → Good 0 os → All Fit os → All Numbered os → All (Proper Base) (map encode os)
-all-proper [] r f g = tt
-all-proper (o ∷ os) r f g = (proper o (r .0) (f .0) (g .0), all-proper os (r .2) (f .1) (g .1))
+all-proper : (os : List Op) → Good 0 os → All Fit os → All (Proper Base) (map encode os)
+all-proper [] r f = tt
+all-proper (o ∷ os) r f = (proper o (r .0) (f .0), all-proper os (r .2) (f .1))
 
 -- ## The base
 
@@ -119,6 +82,14 @@ kind-of (end loop) r = absurd (omega arith)
 kind-of (call k) r = absurd (omega arith)
 kind-of return r = absurd (omega arith)
 
+-- ## An accepted file is that of its instructions
+
+encoded : (nt : Notation) → Absolute nt → (f : List ℕ) → Fine nt f → Encoded f
+encoded nt a f h = record { its-records = accepted-records nt f (h .faultless) a; its-bytes = λ b. accepted-file nt f (h .faultless) a b (h .even) }
+
+pub encodings : Encodings
+encodings f n = (λ e. encoded Routine tt f (admitted f n e .fines), λ e. encoded Base tt f (held Base f n e .fines))
+
 pub base-length : Length
 base-length = converted-length
 
@@ -129,12 +100,11 @@ base-accepted s n e =
     let L = ops s in
     let c = converted L (a .allowed) in
     let f = stages-fit L (a .room) (accepted-ops Routine s (a .fines .faultless) tt) .fourth in
-    let g = c .numbers (numbered (records s) (no-faults Routine 1 (count s) s (a .fines .faultless))) in
     let l = length-map (convert L) encode ∙ converted-length L in
     let r = a .room in
     record {
       kinds = kinds (convert L) (c .good);
-      checked = accepted Base (map encode (convert L)) (omega arith) (all-proper (convert L) (c .good) f g) ∙ ap Accepted l;
+      checked = accepted Base (map encode (convert L)) (omega arith) (all-proper (convert L) (c .good) f) ∙ ap Accepted l;
       read-back = fit-ops (convert L) f;
     }
   where

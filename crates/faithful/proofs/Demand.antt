@@ -14,7 +14,7 @@ use Rattle.rules.specs.Loops.{unloop, loops}
 use Rattle.rules.specs.Conditionals.{uncond}
 use Rattle.rules.specs.Convert.{convert}
 use Rattle.rules.specs.Stack.{fresh, top, equals}
-use Rattle.rules.specs.Step.{Mem, Reply, did, stops, perform, Out, go, halt, agree, step}
+use Rattle.rules.specs.Step.{Mem, Acted, did, stops, perform, Out, go, halt, agree, step}
 use Rattle.rules.specs.Run.{startOf, freshMem, Run, oneMore, onward, run, runs}
 use Rattle.rules.proofs.Cases.{there-and-back}
 use Rattle.rules.proofs.Records.{ops-length}
@@ -41,7 +41,7 @@ placeOf L k =
     place (each (uncond C) 1 C) (place (each (unloop B) 1 B) (place (each (uncall (length A)) 1 A) k))
 
 then : {k k′ : ℕ} {L M N : List Op} {P Q : ℕ → ℕ} → Staged k L M P → Staged k′ M N Q → Staged k′ L N (λ i. Q (P i))
-then {Q} s t = record { sim = both (s .sim) (t .sim); good = t .good; starts = t .starts ∙ ap Q (s .starts); numbers = λ h. t .numbers (s .numbers h) }
+then {Q} s t = record { sim = both (s .sim) (t .sim); good = t .good; starts = t .starts ∙ ap Q (s .starts) }
 
 pub converted : (L : List Op) → skip L ≡ 0 → Staged 0 L (convert L) (placeOf L)
 unfolding convert placeOf
@@ -62,7 +62,7 @@ unfolding linkCost
 link-cost zero t = omega arith
 link-cost (suc j) t = let h = link-cost j t in between (equals t (suc j)) 1 3 _ _ (omega arith) (omega arith)
 
-fork-cost : (v : Bool) (x : Reply) → (1 ≤ forkCost v x) × (forkCost v x ≤ 2)
+fork-cost : (v : Bool) (x : Acted) → (1 ≤ forkCost v x) × (forkCost v x ≤ 2)
 unfolding forkCost
 fork-cost v (did r m) = between (agree v r) 1 1 2 2 (omega arith) (omega arith)
 fork-cost v (stops w) = omega arith

@@ -1,6 +1,6 @@
 -- Stage 1, labels: the records stay where they are and do what they did. And where refusal 6 is absent, what it leaves is fit for the
 -- stages that follow.
-use mathlib.Core.Path.{_≡_, refl, sym, ap, _∙_, subst, fun-ext}
+use mathlib.Core.Path.{_≡_, refl, ap, _∙_, subst, fun-ext}
 use Prim.Native.Nat.{_≤_}
 use native.Mathlib.Omega.{arith}
 use Rattle.rules.specs.Words.{ℕ, zero, suc, _+_, Bool, true, false, cond, _&&_, Option, none, some, List, [], _∷_, length, drop, getElem?}
@@ -13,11 +13,10 @@ use Rattle.rules.specs.Conditionals.{itsSeparator}
 use Rattle.rules.specs.Labels.{unlabel, labels}
 use Rattle.rules.specs.Step.{deed, Mem, stepAt, step}
 use Rattle.rules.specs.Run.{startOf}
-use Rattle.rules.proofs.Records.{All}
 use Rattle.rules.proofs.Length.{labels-length}
 use Rattle.rules.proofs.Computes.{computes}
 use Rattle.faithful.proofs.Inner.Simulation.{cost, costOf, costAt, Sim, stay, first}
-use Rattle.faithful.proofs.Inner.Turns.{rank, Calm, Good, Numbered}
+use Rattle.faithful.proofs.Inner.Turns.{rank, Calm, Good}
 use Rattle.faithful.proofs.Inner.Stage.{Staged}
 
 module _ (L : List Op) where
@@ -170,14 +169,6 @@ module _ (L : List Op) where
       by true q e k = absurd (omega arith)
       by false q e k = (low (suc p) o, rw (plain-alike (suc p) o) (calm-next (plainTest o) (suc (suc p)) x os q), k e)
 
-  numbered : (p : ℕ) (os : List Op) → All Numbered os → All Numbered (each (unlabel L) p os)
-  unfolding each
-  numbered p [] h = tt
-  numbered p (o ∷ os) h = (
-    subst (λ (X : Type 0). X) (sym (unlabel-alike Numbered (λ x s. refl) (λ x s. refl) (λ x s t. refl) p o)) (h .0),
-    numbered (suc p) os (h .1),
-  )
-
   pub labels-staged : skip L ≡ 0 → Staged 3 L (labels L) (λ i. i)
   unfolding skip labels startOf
-  labels-staged e = record { sim = sim; good = good-from 0 L e; starts = ap (λ (n : ℕ). moveTo n 1) (labels-length L); numbers = numbered 1 L }
+  labels-staged e = record { sim = sim; good = good-from 0 L e; starts = ap (λ (n : ℕ). moveTo n 1) (labels-length L) }

@@ -33,14 +33,14 @@ record Turned (i : ℕ) (r q : Rec) : Type 0 where
   back : absoluteAt i q ≡ r
   near : r .x ≤ 9999
 
-abbrev Turns : ℕ → Rec → Type 0
-Turns i r = (q : Rec) × Turned i r q
+abbrev Translates : ℕ → Rec → Type 0
+Translates i r = (q : Rec) × Turned i r q
 
 number-proper : (k x : ℕ) → rowOf Relative k ≡ rowOf Base 4 → x ≤ 9999 → Proper Relative (rec k x 0)
 unfolding computes
 number-proper k x e h = record { kind-listed = ap Checks.listed e; fields-in = rw (e, leb·zero x, le-leb x 9999 h); small = omega arith }
 
-jump-turns : (i k : ℕ) → 1 ≤ i → i ≤ 9999 → k ≤ 9999 → Turns i (rec 4 k 0)
+jump-turns : (i k : ℕ) → 1 ≤ i → i ≤ 9999 → k ≤ 9999 → Translates i (rec 4 k 0)
 unfolding computes
 jump-turns i zero l h f =
     let stop : Proper Relative (rec 19 0 0) = record { kind-listed = refl; fields-in = refl; small = omega arith } in
@@ -66,10 +66,10 @@ jump-turns i (suc k) l h f = in-or-out (suc k) i
     ))
 
 -- A record of kind 1 to 3 stays.
-stays : (i k : ℕ) (a : Act) → relativeAt i (actRec k a) ≡ actRec k a → absoluteAt i (actRec k a) ≡ actRec k a → Proper Relative (actRec k a)
-    → FitAct a → Turns i (actRec k a)
+kept : (i k : ℕ) (a : Act) → relativeAt i (actRec k a) ≡ actRec k a → absoluteAt i (actRec k a) ≡ actRec k a → Proper Relative (actRec k a)
+    → FitAct a → Translates i (actRec k a)
 unfolding xOf
-stays i k a e g f h = (actRec k a, record { becomes = e; listed = f; back = g; near = low a h })
+kept i k a e g f h = (actRec k a, record { becomes = e; listed = f; back = g; near = low a h })
   where
     low : (a : Act) → FitAct a → xOf a ≤ 9999
     low (outside n) h = omega arith
@@ -80,11 +80,11 @@ stays i k a e g f h = (actRec k a, record { becomes = e; listed = f; back = g; n
 not-there : {A : Type 0} → true ≡ false → A
 not-there e = clash cc
 
-op-turns : (i : ℕ) (o : Op) → 1 ≤ i → i ≤ 9999 → fieldFault Base (encode o) ≡ false → Fit o → Turns i (encode o)
+op-turns : (i : ℕ) (o : Op) → 1 ≤ i → i ≤ 9999 → fieldFault Base (encode o) ≡ false → Fit o → Translates i (encode o)
 unfolding computes
-op-turns i (act a) l h e f = stays i 1 a refl refl (record { kind-listed = refl; fields-in = e; small = fit-small (act a) f }) f
-op-turns i (test true a) l h e f = stays i 2 a refl refl (record { kind-listed = refl; fields-in = e; small = fit-small (test true a) f }) f
-op-turns i (test false a) l h e f = stays i 3 a refl refl (record { kind-listed = refl; fields-in = e; small = fit-small (test false a) f }) f
+op-turns i (act a) l h e f = kept i 1 a refl refl (record { kind-listed = refl; fields-in = e; small = fit-small (act a) f }) f
+op-turns i (test true a) l h e f = kept i 2 a refl refl (record { kind-listed = refl; fields-in = e; small = fit-small (test true a) f }) f
+op-turns i (test false a) l h e f = kept i 3 a refl refl (record { kind-listed = refl; fields-in = e; small = fit-small (test false a) f }) f
 op-turns i (jump k) l h e f = jump-turns i k l h f
 op-turns i (label s) l h e f = not-there e
 op-turns i (goto s) l h e f = not-there e
@@ -99,10 +99,10 @@ op-turns i (end loop) l h e f = not-there e
 op-turns i (call k) l h e f = not-there e
 op-turns i return l h e f = not-there e
 
-record-turns : (i : ℕ) (r : Rec) → 1 ≤ i → i ≤ 9999 → fieldFault Base r ≡ false → Turns i r
+record-turns : (i : ℕ) (r : Rec) → 1 ≤ i → i ≤ 9999 → fieldFault Base r ≡ false → Translates i r
 record-turns i r l h e =
     let b = accepted-back Base tt r e in
-    subst (Turns i) b (op-turns i (decode r) l h (ap (fieldFault Base) b ∙ e) (accepted-fit Base tt r e))
+    subst (Translates i) b (op-turns i (decode r) l h (ap (fieldFault Base) b ∙ e) (accepted-fit Base tt r e))
 
 -- ## All of them
 

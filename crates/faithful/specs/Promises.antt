@@ -2,7 +2,7 @@
 use mathlib.Core.Path.{_≡_}
 use mathlib.Core.Logic.{_↔_}
 use Prim.Native.Nat.{_≤_, _<_}
-use Rattle.rules.specs.Words.{ℕ, zero, suc, _+_, _*_, Option, none, some, List, length, getD}
+use Rattle.rules.specs.Words.{ℕ, zero, suc, _+_, _*_, Option, none, some, List, map, length, getD}
 use Rattle.rules.specs.declared.Notation.the-variants.{Base, Relative}
 use Rattle.rules.specs.declared.Status.{Status}
 use Rattle.rules.specs.declared.Verdict.the-variants.{Accepted}
@@ -72,6 +72,17 @@ Demand3File =
     (f : List ℕ) (n : ℕ) → checkRoutine f ≡ Accepted n → (replies log : List ℕ)
     → ((s i : ℕ) (m : Mem) → after (ops f) s (startOf (ops f)) (freshMem replies log) ≡ go i m → Follows n (ops f) replies log s i m)
     × ((budget : ℕ) → runs (ops f) replies log budget .steps < budget → RunFollows n (ops f) replies log (runs (ops f) replies log budget))
+
+-- ## Records and instructions (proofs/Base)
+
+-- The records of the file f are the records of its instructions; hence, where f is bytes, it is the file of its instructions.
+pub record Encoded (f : List ℕ) : Type 0 where
+  pub its-records : map encode (ops f) ≡ records f
+  pub its-bytes : ((k : ℕ) → getD f k 0 < 256) → file (ops f) ≡ f
+
+-- So of every file that is accepted, as a routine or as a base: reading its records loses nothing, whatever the table of kinds says.
+abbrev pub Encodings : Type 0
+Encodings = (f : List ℕ) (n : ℕ) → (checkRoutine f ≡ Accepted n → Encoded f) × (checkRecords Base f ≡ Accepted n → Encoded f)
 
 -- ## Nesting (proofs/Grammar)
 

@@ -11,8 +11,9 @@ use Rattle.rules.specs.Record.{Rec}
 use Rattle.rules.specs.Instruction.{Act, outside, push, pop, compare, conditional, loop, Op, act, test, jump, label, goto, goto2, header, separator, end, call, return, actOf, xOf, yOf, actRec, encode}
 use Rattle.rules.proofs.Records.{All}
 use Rattle.rules.proofs.Instructions.{FitAct, Fit}
-use Rattle.listing.specs.Text.{ascii, decimal, named, refusedAt, action, sign, instruction, line, lines, listing}
-use Rattle.listing.proofs.Decimal.{decimal-length}
+use Rattle.words.specs.Text.{ascii, decimal, named, action, sign, instruction}
+use Rattle.words.proofs.Decimal.{decimal-length}
+use Rattle.listing.specs.Text.{refusedAt, line, lines, listing}
 
 pub refused-length : (n p : ℕ) → n < 18446744073709551616 → p < 18446744073709551616 → length (refusedAt n p) ≤ 50
 unfolding refusedAt
@@ -24,7 +25,7 @@ Narrow r = (r .x ≤ 9999) × (r .y ≤ 9999)
 
 act-narrow : (k : ℕ) (a : Act) → FitAct a → Narrow (actRec k a)
 unfolding xOf yOf
-act-narrow k (outside n) h = omega arith
+act-narrow k (outside n) h = omega (arith, h .1)
 act-narrow k (push y) h = omega arith
 act-narrow k pop h = omega arith
 act-narrow k (compare y) h = omega arith

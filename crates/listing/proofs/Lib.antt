@@ -1,6 +1,4 @@
-pub mod Decimal
 pub mod Printing
-pub mod Instructions
 pub mod Lines
 pub mod Lengths
 pub mod Example

@@ -1,7 +1,7 @@
 -- The lines of a base, as code goes on from one to the next.
 --     lineOf, lines-groups, same-line     the line of record i of the file; the lines of all its records; what the code reads of it
 --     listing-is     the listing with its first line
---     room, turn, finish     after i lines: the next one has its room; one line more; at the end
+--     turn, finish     after i lines: one line more; at the end
 use mathlib.Core.Path.{_≡_, refl, sym, ap, _∙_}
 use Prim.Native.Nat.{ℕ, zero, suc, _+_, _-_, _≤_, _<_}
 use native.Mathlib.Nat.{zero-add, suc-add, add-suc}
@@ -13,12 +13,13 @@ use lib.Seq.{take-length}
 use borrow.Rule.Slice.PartMut.{putMid}
 use Rattle.rules.specs.Record.{Rec, rec, count, records}
 use Rattle.rules.proofs.Records.{records-length}
-use Rattle.rules.proofs.SecondLevel.{groups, groups-room}
+use Rattle.rules.proofs.SecondLevel.{groups}
 use Rattle.records.specs.Reading.{recAt}
 use Rattle.records.proofs.Writing.{rest, rec-getD, copied}
-use Rattle.listing.specs.Text.{ascii, named, line, lines, listing}
-use Rattle.listing.specs.Answers.{Printed}
-use Rattle.listing.proofs.Printing.{more, sizes}
+use Rattle.words.specs.Text.{ascii, named}
+use Rattle.words.specs.Printing.{Printed}
+use Rattle.words.proofs.Printing.{print-more, print-as}
+use Rattle.listing.specs.Text.{line, lines, listing}
 
 -- one record more
 lines-on : (p k : ℕ) (rs : List Rec) (z : Rec) → k < length rs → lines p (take (suc k) rs) ≡ lines p (take k rs) ++ line (k + p) (getD rs k z)
@@ -50,12 +51,9 @@ module _ (s : List ℕ) where
   same-line i k x y = ap (line i) (copied k x y)
 
   module _ (i : ℕ) {o w : List ℕ} {at : ℕ} (v : Printed (groups lineOf i) o w at) where
-    pub room : i < count s → length (lines 1 (records s)) ≤ length o → length (lineOf (i + 1)) ≤ length (rest w at)
-    room h l = rw add-one (omega (arith, sizes v, groups-room lineOf i (count s) h, ap length lines-groups))
-
     pub turn : {ys : List ℕ} {k : ℕ} → Printed (lineOf (i + 1)) (rest w at) ys k → Printed (groups lineOf (i + 1)) o (putMid at (length w - at) w ys) (at + k)
     unfolding groups
-    turn p = rw add-one (more v (rw add-one at p))
+    turn p = rw add-one (print-more v (rw add-one at p))
 
     pub finish : i ≤ count s → count s ≤ i → Printed (lines 1 (records s)) o w at
-    finish h l = let e : i ≡ count s = omega arith in rw (lines-groups, ← e) v
+    finish h l = let e : i ≡ count s = omega arith in print-as lines-groups (rw e at v)

@@ -9,11 +9,6 @@ use Rattle.rules.specs.Refusals.{when, verdict}
 use Rattle.rules.specs.Answers.{routineChecks}
 use Rattle.listing.specs.Text.{textOf}
 
--- The text t at the start of the part o, whose rest is as it was: of o a writer leaves w, and answers k bytes.
-pub record Printed (t o w : List ℕ) (k : ℕ) : Type 0 where
-  pub count : k ≡ length t
-  pub holds : w ≡ t ++ drop k o
-
 -- Refusal 8 where the text t is longer than the part lent; else the bytes printed.
 unfoldable pub roomFor : List ℕ → List ℕ → Option Refusal
 roomFor t text = when (ltb (length text) (length t)) Room

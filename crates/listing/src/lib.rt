@@ -5,99 +5,23 @@ use records::x_at;
 use records::y_at;
 use rules::Refusal;
 use rules::Verdict;
+use words::put_instruction;
+use words::put_named;
+use words::put_number;
+use words::put_word;
 ghost use mathlib.Core.Path.{_≡_};
 ghost use mathlib.Core.List.{[], _∷_, _++_};
 ghost use Prim.Native.Nat.{_≤_};
 ghost use lib.ListN.{length};
 ghost use Rattle.rules.specs.Record.{rec, records};
-ghost use Rattle.rules.specs.Instruction.{actOf};
 ghost use Rattle.rules.specs.Refusals.{told, verdict};
-ghost use Rattle.listing.specs.Text.{ascii, decimal, action, instruction, line, lines, listing, textOf, refused, refusedAt};
-ghost use Rattle.listing.specs.Answers.{Printed, roomFor, listingOf, Listed, Line};
-
-// A word at the start of the part lent, as every writer here prints its own text: it answers how many bytes.
-fn put_word(word: &[u8], text: &mut [u8]) -> usize
-    requires { ⌜ length (now word) ≤ length (now text) ⌝ }
-    ensures { λ r. ⌜ Printed (now (word .entry)) (now (text .entry)) (now (text .exit)) r ⌝ }
-{
-    let n = word.len();
-    let mut i = 0;
-    while i < n {
-        text[i] = word[i];
-        i += 1;
-    }
-    n
-}
-
-// A number in decimal: its last digit behind the digits of its tenth.
-fn put_number(n: usize, text: &mut [u8]) -> usize
-    requires { ⌜ length (decimal n) ≤ length (now text) ⌝ }
-    ensures { λ r. ⌜ Printed (decimal n) (now (text .entry)) (now (text .exit)) r ⌝ }
-{
-    if n < 10 {
-        text[0] = 48 + n as u8;
-        return 1;
-    }
-    let at = put_number(n / 10, text);
-    text[at] = 48 + (n % 10) as u8;
-    at + 1
-}
-
-// A word, and a number behind it.
-fn put_named(word: &[u8], n: usize, text: &mut [u8]) -> usize
-    requires { ⌜ length (now word ++ decimal n) ≤ length (now text) ⌝ }
-    ensures { λ r. ⌜ Printed (now (word .entry) ++ decimal n) (now (text .entry)) (now (text .exit)) r ⌝ }
-{
-    let at = put_word(word, text);
-    at + put_number(n, &mut text[at..])
-}
-
-// A word, and a number in brackets that the word opens.
-fn put_taking(word: &[u8], n: u16, text: &mut [u8]) -> usize
-    requires { ⌜ length (now word ++ decimal n ++ ascii ")") ≤ length (now text) ⌝ }
-    ensures { λ r. ⌜ Printed (now (word .entry) ++ decimal n ++ ascii ")") (now (text .entry)) (now (text .exit)) r ⌝ }
-{
-    let at = put_named(word, n as usize, text);
-    at + put_word(b")", &mut text[at..])
-}
-
-// An outside action by its number, or one of the counter stack's own.
-fn put_action(x: u16, y: u16, text: &mut [u8]) -> usize
-    requires { ⌜ length (action (actOf x y)) ≤ length (now text) ⌝ }
-    ensures { λ r. ⌜ Printed (action (actOf x y)) (now (text .entry)) (now (text .exit)) r ⌝ }
-{
-    match x {
-        1001 => put_taking(b"push(", y, text),
-        1002 => put_word(b"pop", text),
-        1003 => put_taking(b"topeq(", y, text),
-        _ => put_named(b"a", x as usize, text),
-    }
-}
-
-// An action with its sign in front.
-fn put_signed(sign: &[u8], x: u16, y: u16, text: &mut [u8]) -> usize
-    requires { ⌜ length (now sign ++ action (actOf x y)) ≤ length (now text) ⌝ }
-    ensures { λ r. ⌜ Printed (now (sign .entry) ++ action (actOf x y)) (now (text .entry)) (now (text .exit)) r ⌝ }
-{
-    let at = put_word(sign, text);
-    at + put_action(x, y, &mut text[at..])
-}
-
-fn put_instruction(kind: u8, x: u16, y: u16, text: &mut [u8]) -> usize
-    requires { ⌜ length (instruction (rec kind x y)) ≤ length (now text) ⌝ }
-    ensures { λ r. ⌜ Printed (instruction (rec kind x y)) (now (text .entry)) (now (text .exit)) r ⌝ }
-{
-    match kind {
-        2 => put_signed(b"+", x, y, text),
-        3 => put_signed(b"-", x, y, text),
-        4 => put_named(b"##", x as usize, text),
-        _ => put_action(x, y, text),
-    }
-}
+ghost use Rattle.words.specs.Text.{ascii, decimal, named};
+ghost use Rattle.words.specs.Printing.{Printed};
+ghost use Rattle.listing.specs.Text.{line, lines, listing, textOf, refused};
+ghost use Rattle.listing.specs.Answers.{roomFor, listingOf, Listed, Line};
 
 // Number and instruction.
 fn put_line(i: usize, kind: u8, x: u16, y: u16, text: &mut [u8]) -> usize
-    requires { ⌜ length (line i (rec kind x y)) ≤ length (now text) ⌝ }
     ensures { λ r. ⌜ Printed (line i (rec kind x y)) (now (text .entry)) (now (text .exit)) r ⌝ }
 {
     let mut at = put_number(i, text);
@@ -109,7 +33,6 @@ fn put_line(i: usize, kind: u8, x: u16, y: u16, text: &mut [u8]) -> usize
 
 // One line per base record, each into the unwritten rest of the text.
 fn put_lines(base: &[u8], text: &mut [u8]) -> usize
-    requires { ⌜ length (lines 1 (records (now base))) ≤ length (now text) ⌝ }
     ensures { λ r. ⌜ Printed (lines 1 (records (now (base .entry)))) (now (text .entry)) (now (text .exit)) r ⌝ }
 {
     let n = base.len() / 8;
@@ -128,16 +51,22 @@ fn put_lines(base: &[u8], text: &mut [u8]) -> usize
     at
 }
 
+// A word and two numbers, on a line.
+fn put_numbers(word: &[u8], first: usize, second: usize, text: &mut [u8]) -> usize
+    ensures { λ r. ⌜ Printed (now (word .entry) ++ decimal first ++ named " " second ++ ascii "\n") (now (text .entry)) (now (text .exit)) r ⌝ }
+{
+    let mut at = put_named(word, first, text);
+    at += put_named(b" ", second, &mut text[at..]);
+    at += put_word(b"\n", &mut text[at..]);
+    at
+}
+
 // `length`, source count and converted count; then the lines.
 fn put_listing(n: usize, base: &[u8], text: &mut [u8]) -> usize
-    requires { ⌜ length (listing n (records (now base))) ≤ length (now text) ⌝ }
     ensures { λ r. ⌜ Printed (listing n (records (now (base .entry)))) (now (text .entry)) (now (text .exit)) r ⌝ }
 {
-    let mut at = put_named(b"length ", n, text);
-    at += put_named(b" ", base.len() / 8, &mut text[at..]);
-    at += put_word(b"\n", &mut text[at..]);
-    at += put_lines(base, &mut text[at..]);
-    at
+    let at = put_numbers(b"length ", n, base.len() / 8, text);
+    at + put_lines(base, &mut text[at..])
 }
 
 // The paper's number of a refusal.
@@ -178,24 +107,18 @@ pub fn place_of(refusal: Refusal) -> usize
     }
 }
 
-// `refused`, number, place.
-fn put_refused(number: usize, place: usize, text: &mut [u8]) -> usize
-    requires { ⌜ length (refusedAt number place) ≤ length (now text) ⌝ }
-    ensures { λ r. ⌜ Printed (refusedAt number place) (now (text .entry)) (now (text .exit)) r ⌝ }
-{
-    let mut at = put_named(b"refused ", number, text);
-    at += put_named(b" ", place, &mut text[at..]);
-    at += put_word(b"\n", &mut text[at..]);
-    at
-}
-
-// The line of a refusal, and how many bytes it has. A text that is too short is left as it is, with 0.
+// The line of a refusal, `refused`, number, place, and how many bytes it has. A text that is too short is left as it is, with 0.
 pub fn refused_line(refusal: Refusal, text: &mut [u8]) -> usize
     ensures { λ r. ⌜ Line (refused refusal) (now (text .entry)) r (now (text .exit)) ⌝ }
 {
     // Two numbers of at most 20 digits each.
     let mut line = [0u8; 50];
-    let length = put_refused(number_of(refusal), place_of(refusal), &mut line);
+    let length = put_numbers(
+        b"refused ",
+        number_of(refusal),
+        place_of(refusal),
+        &mut line,
+    );
     if text.len() < length {
         return 0;
     }

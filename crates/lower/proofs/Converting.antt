@@ -1,6 +1,7 @@
 -- The verdict on a conversion, by what its checks found in their order; and the contract, by the verdict.
-use mathlib.Core.Path.{_≡_, sym, _∙_}
-use Prim.Native.Nat.{ℕ, _*_, _≤_, _<_}
+use mathlib.Core.Path.{_≡_, sym, ap, _∙_}
+use Prim.Native.Nat.{ℕ, _*_, _/_, _≤_, _<_}
+use native.Mathlib.Omega.{arith}
 use mathlib.Core.Bool.{Bool, true, false, _||_}
 use mathlib.Core.List.{List, [], _∷_}
 use lib.ListN.{length, replicate, length-map}
@@ -17,21 +18,21 @@ use Rattle.rules.specs.Answers.{routineChecks, short, checkRoutine, filled, cle
 use Rattle.rules.proofs.Length.{converted-length}
 use Rattle.rules.proofs.Refusals.{refused-then, accepted-then, admitted}
 use Rattle.records.specs.Writing.{Wrote}
-use Rattle.records.proofs.Writing.{filled-by}
-use Rattle.shape.specs.Length.{baseLength}
+use Rattle.records.proofs.Writing.{filled-by, wrote-length}
+use Rattle.growth.specs.Length.{baseLength}
 
 module _ {s o w : List ℕ} where
   pub turned-away : {r : Refusal} → converting s o w ≡ Refused r → Converted s o w (Refused r) o w
   unfolding filled cleared
   turned-away e = record { answers = sym e; output = rw e; working = rw e }
 
-  pub converted : {n : ℕ} {o′ w′ : List ℕ} {k : ℕ} → converting s o w ≡ Accepted n → n ≡ baseCount s → Wrote (baseRecords s) o o′ k → w′ ≡ replicate (length w) 0 → Converted s o w (Accepted n) o′ w′
+  -- The answer is how many records were written.
+  pub converted : {n : ℕ} {o′ w′ : List ℕ} {k : ℕ} → converting s o w ≡ Accepted n → n ≡ baseCount s → Wrote (baseRecords s) o o′ k → w′ ≡ replicate (length w) 0 → Converted s o w (Accepted (k / 8)) o′ w′
   unfolding baseRecords baseCount cleared
-  converted e l u z = record {
-    answers = sym e;
-    output = filled-by e (l ∙ sym (converted-length (ops s)) ∙ sym (length-map (convert (ops s)) encode)) u;
-    working = z ∙ rw e;
-  }
+  converted {n} {k = k} e l u z =
+      let h : n ≡ length (baseRecords s) = l ∙ sym (converted-length (ops s)) ∙ sym (length-map (convert (ops s)) encode) in
+      let b : k / 8 ≡ n = omega (arith, wrote-length u, h) in
+      record { answers = ap Accepted b ∙ sym e; output = filled-by e h u; working = z ∙ rw e }
 
 module _ (s o w : List ℕ) where
   pub refused : {r : Refusal} → checkRoutine s ≡ Refused r → converting s o w ≡ Refused r

@@ -1,154 +1,164 @@
--- What a record becomes in each stage, by the kind, x and y that were read of it.
+-- A stage on a file is the paper's stage on its instructions: what a record becomes, by its kind, is what its instruction becomes.
+--     Own     the records of the file are those of its instructions, and no more than a base may have
+--     lowers, stage-is     the stage, by its name; where what it gives is no longer than a base may be
 use mathlib.Core.Path.{_≡_, refl, sym, ap, _∙_}
-use Prim.Native.Nat.{ℕ, suc, _+_}
-use native.Mathlib.Numerals.{add-one}
-use mathlib.Core.Bool.{Bool, true, false, not, cond}
-use mathlib.Core.List.{List, [], _∷_, map}
-use lib.ListN.{length, getD, set}
-use lib.Seq.{getD-set-other}
-use Rattle.rules.specs.Record.{Rec, rec, count}
-use Rattle.rules.specs.Numbers.{given, past}
-use Rattle.rules.specs.Instruction.{Act, Sort, conditional, loop, Op, test, jump, header, xOf, yOf, written, decode, encode, ops}
-use Rattle.rules.specs.SecondLevel.{_▹_, stays, members, sent}
-use Rattle.rules.specs.Labels.{target, target2, unlabel}
-use Rattle.rules.specs.Calls.{uncall}
-use Rattle.rules.specs.Partners.{endOf, separatorOf, headerOf}
-use Rattle.rules.specs.Loops.{unloop}
-use Rattle.rules.specs.Conditionals.{itsSeparator, uncond}
+use Prim.Native.Nat.{ℕ, zero, suc, _≤_, _<_}
+use native.Mathlib.Omega.{arith}
+use mathlib.Core.Bool.{Bool, true, false}
+use mathlib.Core.List.{List, [], _∷_, _++_, map, map-append}
+use lib.ListN.{length, getD, List·getD-map}
+use borrow.Author.Tests.{le-leb}
+use Rattle.rules.specs.Record.{Rec, rec, count, records}
+use Rattle.rules.specs.Instruction.{conditional, loop, Op, act, test, jump, label, goto, goto2, header, separator, end, call, return, xOf, yOf, decode, encode, ops}
+use Rattle.rules.specs.SecondLevel.{members, renumber, sent, removed}
+use Rattle.rules.specs.Labels.{unlabel, labels}
+use Rattle.rules.specs.Calls.{chain, uncall, calls}
+use Rattle.rules.specs.Loops.{unloop, loops}
+use Rattle.rules.specs.Conditionals.{uncond, conditionals}
 use Rattle.rules.proofs.Records.{ops-length}
+use Rattle.rules.proofs.SecondLevel.{groups, groups-ext, groups-map, lowered, single, stage-groups, each-groups, renumber-zero, renumber-in}
 use Rattle.records.specs.Reading.{recAt}
-use Rattle.lower.specs.declared.second_level.Stage.{Stage}
-use Rattle.lower.specs.declared.second_level.Stage.the-variants.{Calls, Loops, Conditionals}
-use Rattle.lower.specs.Stages.{becomes, leads, group, chainOf}
-use Rattle.lower.proofs.Forms.{forms, form, decode-map}
+use Rattle.records.proofs.Writing.{rec-getD}
+use Rattle.places.specs.declared.Stage.{Stage}
+use Rattle.places.specs.declared.Stage.the-variants.{Labels, Calls, Loops, Conditionals}
+use Rattle.places.specs.Stages.{becomes, expanded, within, leads, kept}
+use Rattle.stages.specs.Groups.{labelled, chainOf, called, looped, parted, group, staged}
+use Rattle.stages.proofs.Groups.{staged-is}
+
+pub record Own (s : List ℕ) : Type 0 where
+  pub own : map encode (ops s) ≡ records s
+  pub few : count s ≤ 4096
+
+abbrev pub lowers : Stage → List Op → List Op
+lowers Labels L = labels L
+lowers Calls L = calls L
+lowers Loops L = loops L
+lowers Conditionals L = conditionals L
+
+-- ## One record, by its instruction
 
 module _ (s : List ℕ) (i : ℕ) where
-  abbrev r : Rec
-  r = recAt s i
+  label-is : (o : Op) → labelled s i (encode o) ≡ encode (unlabel (ops s) i o) ∷ []
+  unfolding labelled unlabel encode xOf yOf
+  label-is (act a) = refl
+  label-is (test true a) = refl
+  label-is (test false a) = refl
+  label-is (jump k) = refl
+  label-is (label s) = refl
+  label-is (goto s) = refl
+  label-is (goto2 s t) = refl
+  label-is (header conditional true a) = refl
+  label-is (header conditional false a) = refl
+  label-is (header loop true a) = refl
+  label-is (header loop false a) = refl
+  label-is separator = refl
+  label-is (end conditional) = refl
+  label-is (end loop) = refl
+  label-is (call k) = refl
+  label-is return = refl
 
-  abbrev to : Stage → ℕ → ℕ
-  to stage = leads stage (ops s)
+  module _ (to : ℕ → ℕ) where
+    module _ (t : (k : ℕ) → leads Calls s k ≡ to k) (z : to 0 ≡ 0) where
+      chain-is : (j : ℕ) → chainOf s j ≡ map encode (map (sent to) (members (chain j)))
+      unfolding chainOf chain members sent encode xOf yOf
+      chain-is zero = rw z
+      chain-is (suc j) =
+          rw (t, chain-is j)
+          (ap (λ (rs : List Rec). rec 8 1003 (suc j) ∷ rec 1 1002 0 ∷ rec 4 (to (suc j)) 0 ∷ rec 10 0 0 ∷ rs)
+          (sym (ap (map encode) (map-append (sent to) (members (chain j)) (end conditional ∷ [])) ∙ map-append encode (map (sent to) (members (chain j))) (end conditional ∷ []))))
 
-  -- ## In any stage
+      call-is : (o : Op) → called s i (encode o) ≡ map encode (map (sent to) (members (uncall (length (ops s)) i o)))
+      unfolding called kept uncall members sent encode xOf yOf
+      call-is (call k) = rw t
+      call-is return = chain-is (count s) ∙ rw (← ops-length s)
+      call-is (jump k) = rw t
+      call-is (act a) = refl
+      call-is (test true a) = refl
+      call-is (test false a) = refl
+      call-is (label s) = refl
+      call-is (goto s) = refl
+      call-is (goto2 s t) = refl
+      call-is (header conditional true a) = refl
+      call-is (header conditional false a) = refl
+      call-is (header loop true a) = refl
+      call-is (header loop false a) = refl
+      call-is separator = refl
+      call-is (end conditional) = refl
+      call-is (end loop) = refl
 
-  -- A record that is kept.
-  keep-group : (stage : Stage) → becomes stage (ops s) i (decode r) ≡ stays (decode r) → group stage s i ≡ encode (sent (to stage) (decode r)) ∷ []
-  unfolding group members
-  keep-group stage e = rw e
+    loop-is : ((k : ℕ) → leads Loops s k ≡ to k) → (o : Op) → looped s i (encode o) ≡ map encode (map (sent to) (members (unloop (ops s) i o)))
+    unfolding looped kept unloop members sent encode xOf yOf
+    loop-is t (header loop true a) = rw t
+    loop-is t (header loop false a) = rw t
+    loop-is t (end loop) = rw t
+    loop-is t (jump k) = rw t
+    loop-is t (act a) = refl
+    loop-is t (test true a) = refl
+    loop-is t (test false a) = refl
+    loop-is t (label s) = refl
+    loop-is t (goto s) = refl
+    loop-is t (goto2 s t′) = refl
+    loop-is t (header conditional true a) = refl
+    loop-is t (header conditional false a) = refl
+    loop-is t separator = refl
+    loop-is t (end conditional) = refl
+    loop-is t (call k) = refl
+    loop-is t return = refl
 
-  module _ (stage : Stage) {o : Op} (e : decode r ≡ o) where
-    -- One that becomes a jump to m.
-    jump-group : {m k : ℕ} → becomes stage (ops s) i o ≡ (jump m ▹ []) → k ≡ to stage m → group stage s i ≡ rec 4 k 0 ∷ []
-    unfolding group members sent encode
-    jump-group b h = rw (e, b, h)
+    conditional-is : ((k : ℕ) → leads Conditionals s k ≡ to k) → (o : Op) → parted s i (encode o) ≡ map encode (map (sent to) (members (uncond (ops s) i o)))
+    unfolding parted kept uncond members sent encode xOf yOf
+    conditional-is t (header conditional true a) = rw t
+    conditional-is t (header conditional false a) = rw t
+    conditional-is t separator = rw t
+    conditional-is t (end conditional) = rw t
+    conditional-is t (jump k) = rw t
+    conditional-is t (act a) = refl
+    conditional-is t (test true a) = refl
+    conditional-is t (test false a) = refl
+    conditional-is t (label s) = refl
+    conditional-is t (goto s) = refl
+    conditional-is t (goto2 s t′) = refl
+    conditional-is t (header loop true a) = refl
+    conditional-is t (header loop false a) = refl
+    conditional-is t (end loop) = refl
+    conditional-is t (call k) = refl
+    conditional-is t return = refl
 
-  -- One that becomes a test of the other sign, and a jump to m.
-  header-group : (stage : Stage) (b : Sort) (v : Bool) {a : Act} → decode r ≡ header b v a → {m k x y : ℕ} → becomes stage (ops s) i (header b v a) ≡ (test (not v) a ▹ jump m ∷ [])
-      → encode (decode r) ≡ r → x ≡ r .x → y ≡ r .y → k ≡ to stage m → group stage s i ≡ rec (cond v 3 2) x y ∷ rec 4 k 0 ∷ []
-  unfolding group members sent encode
-  header-group stage b v {a} e {m} h own f g k = rw (e, h, k, f, g) (ap (λ (q : Rec). q ∷ rec 4 (to stage m) 0 ∷ []) (by b v (ap encode (sym e) ∙ own)))
-    where
-      by : (b : Sort) (v : Bool) → encode (header b v a) ≡ r → encode (test (not v) a) ≡ rec (cond v 3 2) (r .x) (r .y)
-      by conditional true q = rw (← q)
-      by conditional false q = rw (← q)
-      by loop true q = rw (← q)
-      by loop false q = rw (← q)
+-- ## All records
 
-  module _ {kind : ℕ} (e : kind ≡ r .kind) where
-    except : {A : Type 0} (xs : List A) (j : ℕ) (v z : A) → ¬ (kind ≡ j) → getD (set xs j v) (r .kind) z ≡ getD xs (r .kind) z
-    except xs j v z h = getD-set-other xs j (r .kind) v z (λ q. h (e ∙ q))
+module _ (s : List ℕ) (a : Own s) where
+  abbrev none : Op
+  none = decode (rec 0 0 0)
 
-    -- ## Labels
+  -- A record is that of its instruction.
+  own-at : (k : ℕ) → k < count s → recAt s (suc k) ≡ encode (getD (ops s) k none)
+  own-at k h =
+      sym (rec-getD s k h (encode none))
+      ∙ ap (λ (rs : List Rec). getD rs k (encode none)) (sym (a .own))
+      ∙ List·getD-map encode (ops s) k none
 
-    pub label-here : kind ≡ 5 → encode (unlabel (ops s) i (decode r)) ≡ rec 4 (i + 1) 0
-    unfolding unlabel encode written
-    label-here h = rw (form r e h, add-one)
+  module _ (stage : Stage) (l : length (removed (expanded stage (ops s))) ≤ 4096) where
+    abbrev to : ℕ → ℕ
+    to = renumber (expanded stage (ops s))
 
-    pub goto-here : {x m : ℕ} → x ≡ r .x → m ≡ target (ops s) x → kind ≡ 6 → encode (unlabel (ops s) i (decode r)) ≡ rec 4 m 0
-    unfolding unlabel encode written
-    goto-here f g h = rw (form r e h, g, f)
+    leads-is : (k : ℕ) → leads stage s k ≡ to k
+    unfolding leads within removed expanded
+    leads-is k = rw (le-leb (to k) 4096 (omega (arith, renumber-in (becomes stage (ops s)) to (ops s) none k)))
 
-    pub goto2-here : {x y m : ℕ} → x ≡ r .x → y ≡ r .y → m ≡ target2 (ops s) x y → kind ≡ 7 → encode (unlabel (ops s) i (decode r)) ≡ rec 4 m 0
-    unfolding unlabel encode written
-    goto2-here f g k h = rw (form r e h, k, f, g)
+    removed-is : ((o : Op) (k : ℕ) → k < count s → recAt s (suc k) ≡ encode o → group stage s (suc k) ≡ map encode (map (sent to) (members (becomes stage (ops s) (suc k) o))))
+        → staged stage s ≡ map encode (removed (expanded stage (ops s)))
+    unfolding removed expanded
+    removed-is g =
+        staged-is stage s (a .few)
+        ∙ groups-ext _ _ (count s) (λ k h. g (getD (ops s) k none) k h (own-at k h))
+        ∙ sym (ap (map encode) (stage-groups (becomes stage (ops s)) to (ops s) none ∙ ap (groups _) (ops-length s)) ∙ groups-map encode (lowered (becomes stage (ops s)) to (ops s) none) (count s))
 
-    pub labels-keep : ¬ (kind ≡ 5) → ¬ (kind ≡ 6) → ¬ (kind ≡ 7) → unlabel (ops s) i (decode r) ≡ decode r
-    unfolding unlabel written decode
-    labels-keep a b c =
-        decode-map (unlabel (ops s) i) r
-        ∙ except (set (set (forms r) 5 _) 6 _) 7 _ _ c
-        ∙ except (set (forms r) 5 _) 6 _ _ b
-        ∙ except (forms r) 5 _ _ a
-
-    -- ## Calls
-
-    pub call-group : {x k : ℕ} → x ≡ r .x → k ≡ to Calls x → kind ≡ 15 → group Calls s i ≡ rec 1 1001 (i + 1) ∷ rec 4 k 0 ∷ []
-    unfolding group becomes uncall members sent encode xOf yOf written
-    call-group f g h = rw (form r e h, g, f, add-one)
-
-    pub return-group : kind ≡ 16 → group Calls s i ≡ chainOf (ops s) (count s)
-    unfolding group becomes uncall chainOf written
-    return-group h = rw (form r e h, ops-length)
-
-    pub calls-keep : ¬ (kind ≡ 15) → ¬ (kind ≡ 16) → group Calls s i ≡ encode (sent (to Calls) (decode r)) ∷ []
-    unfolding becomes uncall written
-    calls-keep a b =
-        let keep = map stays (forms r) in
-        keep-group Calls (decode-map (uncall (length (ops s)) i) r ∙ except (set keep 15 _) 16 _ _ b ∙ except keep 15 _ _ a ∙ sym (decode-map stays r))
-
-    -- ## Loops and conditionals: p is the partner found
-
-    module _ (own : encode (decode r) ≡ r) {x y p k : ℕ} (f : x ≡ r .x) (g : y ≡ r .y) where
-      module _ (n : p ≡ endOf loop (ops s) i) (h : k ≡ to Loops (past p)) where
-        pub loop-plus : kind ≡ 12 → group Loops s i ≡ rec 3 x y ∷ rec 4 k 0 ∷ []
-        unfolding becomes unloop written
-        loop-plus q = header-group Loops loop true (form r e q) refl own f g (rw n at h)
-
-        pub loop-minus : kind ≡ 13 → group Loops s i ≡ rec 2 x y ∷ rec 4 k 0 ∷ []
-        unfolding becomes unloop written
-        loop-minus q = header-group Loops loop false (form r e q) refl own f g (rw n at h)
-
-      module _ (n : p ≡ separatorOf (ops s) i) (h : k ≡ to Conditionals (past p)) where
-        pub conditional-plus : kind ≡ 8 → group Conditionals s i ≡ rec 3 x y ∷ rec 4 k 0 ∷ []
-        unfolding becomes uncond written
-        conditional-plus q = header-group Conditionals conditional true (form r e q) refl own f g (rw n at h)
-
-        pub conditional-minus : kind ≡ 9 → group Conditionals s i ≡ rec 2 x y ∷ rec 4 k 0 ∷ []
-        unfolding becomes uncond written
-        conditional-minus q = header-group Conditionals conditional false (form r e q) refl own f g (rw n at h)
-
-    module _ {p k : ℕ} where
-      pub loop-ends : p ≡ headerOf loop (ops s) i → k ≡ to Loops p → kind ≡ 14 → group Loops s i ≡ rec 4 k 0 ∷ []
-      unfolding becomes unloop written
-      loop-ends n h q = jump-group Loops (form r e q) refl (rw n at h)
-
-      pub conditional-parts : p ≡ endOf conditional (ops s) i → k ≡ to Conditionals (past p) → kind ≡ 10 → group Conditionals s i ≡ rec 4 k 0 ∷ []
-      unfolding becomes uncond written
-      conditional-parts n h q = jump-group Conditionals (form r e q) refl (rw n at h)
-
-    pub conditional-ends : {k : ℕ} → k ≡ to Conditionals (given (itsSeparator (ops s) i) (suc i)) → kind ≡ 11 → group Conditionals s i ≡ rec 4 k 0 ∷ []
-    unfolding becomes uncond written
-    conditional-ends h q = jump-group Conditionals (form r e q) refl h
-
-    pub loops-keep : ¬ (kind ≡ 12) → ¬ (kind ≡ 13) → ¬ (kind ≡ 14) → group Loops s i ≡ encode (sent (to Loops) (decode r)) ∷ []
-    unfolding becomes unloop written
-    loops-keep a b c =
-        let keep = map stays (forms r) in
-        keep-group Loops
-        (decode-map (unloop (ops s) i) r
-        ∙ except (set (set keep 12 _) 13 _) 14 _ _ c
-        ∙ except (set keep 12 _) 13 _ _ b
-        ∙ except keep 12 _ _ a
-        ∙ sym (decode-map stays r))
-
-    pub conditionals-keep : ¬ (kind ≡ 8) → ¬ (kind ≡ 9) → ¬ (kind ≡ 10) → ¬ (kind ≡ 11) → group Conditionals s i ≡ encode (sent (to Conditionals) (decode r)) ∷ []
-    unfolding becomes uncond written
-    conditionals-keep a b c d =
-        let keep = map stays (forms r) in
-        keep-group Conditionals
-        (decode-map (uncond (ops s) i) r
-        ∙ except (set (set (set keep 8 _) 9 _) 10 _) 11 _ _ d
-        ∙ except (set (set keep 8 _) 9 _) 10 _ _ c
-        ∙ except (set keep 8 _) 9 _ _ b
-        ∙ except keep 8 _ _ a
-        ∙ sym (decode-map stays r))
+  pub stage-is : (stage : Stage) → length (lowers stage (ops s)) ≤ 4096 → staged stage s ≡ map encode (lowers stage (ops s))
+  unfolding group labels calls loops conditionals expanded becomes
+  stage-is Labels l =
+      staged-is Labels s (a .few)
+      ∙ groups-ext _ _ (count s) (λ k h. ap (labelled s (suc k)) (own-at k h) ∙ label-is s (suc k) (getD (ops s) k none))
+      ∙ sym (ap (map encode) (each-groups (unlabel (ops s)) (ops s) none) ∙ groups-map encode (single (unlabel (ops s)) (ops s) none) (length (ops s)) ∙ ap (groups _) (ops-length s))
+  stage-is Calls l = removed-is Calls l (λ o k h e. ap (called s (suc k)) e ∙ call-is s (suc k) _ (leads-is Calls l) (renumber-zero (expanded Calls (ops s))) o)
+  stage-is Loops l = removed-is Loops l (λ o k h e. ap (looped s (suc k)) e ∙ loop-is s (suc k) _ (leads-is Loops l) o)
+  stage-is Conditionals l = removed-is Conditionals l (λ o k h e. ap (parted s (suc k)) e ∙ conditional-is s (suc k) _ (leads-is Conditionals l) o)

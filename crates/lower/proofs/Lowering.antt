@@ -1,19 +1,18 @@
 -- One stage after another: what a stage wrote is the file that the next one reads.
---     within, part-length, eights     the part of a buffer that a stage wrote
---     asks, next     it meets what the next stage asks, which writes what it makes of the first one's instructions
+--     part-length, eights     the part of a buffer that a stage wrote
+--     stage, next     what a stage writes of a file, and of what the stage before it wrote
 --     over           a later stage that writes as much over an earlier one leaves the rest as it was before both
 --     Ready, ready   what an accepted routine gives the stages
 use mathlib.Core.Path.{_≡_, sym, ap, _∙_}
 use Prim.Native.Nat.{ℕ, _+_, _-_, _*_, _≤_}
 use native.Mathlib.Omega.{arith}
 use mathlib.Core.List.{List, _++_, map}
-use lib.ListN.{length, take, drop, length-append, length-take, length-map}
-use lib.Seq.{take-at, drop-at, drop-drop}
+use lib.ListN.{length, take, drop, length-map}
+use lib.Seq.{take-at, drop-at, drop-drop, length-take-le}
 use Rattle.rules.specs.declared.Notation.the-variants.{Routine}
 use Rattle.rules.specs.declared.Verdict.the-variants.{Accepted}
 use Rattle.rules.specs.Record.{Rec, bytesOf, count, records}
 use Rattle.rules.specs.Instruction.{Op, encode, ops, file}
-use Rattle.rules.specs.SecondLevel.{removed}
 use Rattle.rules.specs.Checks.{most}
 use Rattle.rules.specs.Skip.{convertedLength}
 use Rattle.rules.specs.Answers.{checkRoutine}
@@ -24,43 +23,41 @@ use Rattle.rules.proofs.Fits.{Stages, stages-fit, all-fit-small, fit-ops}
 use Rattle.rules.proofs.Refusals.{admitted}
 use Rattle.records.specs.Writing.{Wrote}
 use Rattle.records.proofs.Writing.{wrote-as, wrote-length}
-use Rattle.lower.specs.declared.second_level.Stage.{Stage}
-use Rattle.lower.specs.Stages.{expanded, Own, Asks}
+use Rattle.places.specs.declared.Stage.{Stage}
+use Rattle.places.specs.Writing.{Fitted}
+use Rattle.places.proofs.Writing.{fit-sizes, fit-as, fit-all}
+use Rattle.stages.specs.Groups.{staged}
+use Rattle.lower.proofs.Groups.{Own, lowers, stage-is}
 
-module _ {g : List Rec} {o w : List ℕ} {k : ℕ} (v : Wrote g o w k) where
-  pub within : k ≤ length w
-  within = omega (arith, v .count, ap length (v .holds) ∙ length-append (bytesOf g) (drop k o))
+pub part-length : {g : List Rec} {o w : List ℕ} {k : ℕ} → Fitted g o w k → k ≡ length (take k w)
+part-length {w = w} {k} v = sym (length-take-le k w (omega (arith, fit-sizes v)))
 
-  pub part-length : k ≡ length (take k w)
-  part-length = simp length-take (omega (arith, within))
+pub eights : (L : List Op) {o w : List ℕ} {k : ℕ} → Wrote (map encode L) o w k → k ≡ 8 * length L
+eights L v = wrote-length v ∙ ap (λ (n : ℕ). 8 * n) (length-map L encode)
 
-module _ (L : List Op) {o w : List ℕ} {k : ℕ} (v : Wrote (map encode L) o w k) where
-  pub eights : k ≡ 8 * length L
-  eights = wrote-length v ∙ ap (λ (n : ℕ). 8 * n) (length-map L encode)
+-- The stage on a file, where what it gives fits into a base and into the output.
+pub stage : (at : Stage) {s : List ℕ} → Own s → (M : List Op) → lowers at (ops s) ≡ M → {o w : List ℕ} {k : ℕ} → length M ≤ 4096 → 8 * length M ≤ length o
+    → Fitted (staged at s) o w k → Wrote (map encode M) o w k
+stage at {s} a M e l r v = fit-all (fit-as (sym (stage-is s a at (rw e l) ∙ ap (map encode) e)) v) (rw (length-map M encode) r)
 
+module _ (L : List Op) {o w : List ℕ} {k : ℕ} (v : Wrote (map encode L) o w k) (f : All Fit L) where
   part-is : take k w ≡ file L
   unfolding file
   part-is = ap (take k) (v .holds) ∙ take-at (bytesOf (map encode L)) (drop k o) k (sym (v .count))
 
-  module _ (f : All Fit L) where
-    read : ops (take k w) ≡ L
-    read = ap ops part-is ∙ fit-ops L f
+  read : ops (take k w) ≡ L
+  read = ap ops part-is ∙ fit-ops L f
 
-    pub asks : (stage : Stage) → length L ≤ 4096 → length (removed (expanded stage L)) ≤ 4096 → Asks stage (take k w)
-    unfolding file
-    asks stage l h = record {
-      file = record {
-        own = ap (map encode) read ∙ sym (records-back (map encode L) (all-fit-small L f)) ∙ ap records (sym part-is);
-        few = omega (arith, ops-length (take k w), ap length read);
-      };
-      fits = rw read h;
-    }
+  own-part : length L ≤ 4096 → Own (take k w)
+  unfolding file
+  own-part l = record {
+    own = ap (map encode) read ∙ sym (records-back (map encode L) (all-fit-small L f)) ∙ ap records (sym part-is);
+    few = omega (arith, ops-length (take k w), ap length read);
+  }
 
-    pub next : (g : List Op → List Op) {o′ w′ : List ℕ} {k′ : ℕ} → Wrote (map encode (g (ops (take k w)))) o′ w′ k′ → Wrote (map encode (g L)) o′ w′ k′
-    next g u = wrote-as (ap (λ (M : List Op). map encode (g M)) (sym read)) u
-
-    pub next-length : (g : List Op → List Op) → length (g (ops (take k w))) ≡ length (g L)
-    next-length g = ap (λ (M : List Op). length (g M)) read
+  pub next : (at : Stage) {o′ w′ : List ℕ} {k′ : ℕ} → length L ≤ 4096 → length (lowers at L) ≤ 4096 → 8 * length (lowers at L) ≤ length o′
+      → Fitted (staged at (take k w)) o′ w′ k′ → Wrote (map encode (lowers at L)) o′ w′ k′
+  next at l m r u = stage at (own-part l) (lowers at L) (ap (lowers at) read) m r u
 
 pub over : {f g : List Rec} {o w v : List ℕ} {j k : ℕ} → Wrote f o w j → Wrote g w v k → j ≤ k → Wrote g o v k
 over {f} {g} {o} {w} {v} {j} {k} u t h =

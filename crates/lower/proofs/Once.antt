@@ -1,9 +1,9 @@
--- Any two answers that the contract of convert allows are equal, and so is what the output and the working buffer then hold.
+-- Any two answers that the contract of convert allows are equal, and so is what the output and the working buffer then hold. The
+-- contract is the function's own, as the check reads it from the source.
 use mathlib.Core.Path.{_≡_}
-use Prim.Native.Nat.{ℕ}
-use mathlib.Core.List.{List}
-use Rattle.rules.specs.declared.Verdict.{Verdict}
-use Rattle.rules.specs.Answers.{Converted}
+use denote.Ref.{now}
+use Rattle.lower.proofs.convert.Reads as convert
 
-pub convert-once : {s o w o₁ w₁ o₂ w₂ : List ℕ} {r₁ r₂ : Verdict} → Converted s o w r₁ o₁ w₁ → Converted s o w r₂ o₂ w₂ → (r₁ ≡ r₂) × (o₁ ≡ o₂) × (w₁ ≡ w₂)
-convert-once a b = (cc, cc, cc)
+convert-once : (κs : _) (a : _) (r r′ : _) (e e′ : _) → convert.Learnt κs a r e → convert.Learnt κs a r′ e′
+    → (r ≡ r′) × (now (e .1 .0) ≡ now (e′ .1 .0)) × (now (e .1 .1 .0) ≡ now (e′ .1 .1 .0))
+convert-once κs a r r′ e e′ p q = (cc, cc, cc)

@@ -1,17 +1,9 @@
-// A routine lowered to its base: the paper's four stages, and the call that converts.
-mod calls;
-mod conditionals;
-mod labels;
-mod loops;
-mod second_level;
-mod stages;
-
-use labels::labels;
+// A routine lowered to its base: the four stages in their order, and the call that converts.
+use growth::base_count;
+use places::Stage;
 use records::clear;
 use rules::Refusal;
 use rules::Verdict;
-use second_level::Stage;
-use shape::base_count;
 use shape::check_routine;
 use stages::expand;
 ghost use mathlib.Core.Path.{_≡_};
@@ -27,7 +19,7 @@ fn write_base(routine: &[u8], out: &mut [u8], work: &mut [u8]) -> usize
     requires { ⌜ (8 * baseCount (now routine) ≤ length (now out)) × (8 * baseCount (now routine) ≤ length (now work)) ⌝ }
     ensures { λ r. ⌜ Wrote (baseRecords (now (routine .entry))) (now (out .entry)) (now (out .exit)) r ⌝ }
 {
-    let first = labels(routine, work);
+    let first = expand(Stage::Labels, routine, work);
     let second = expand(Stage::Calls, &work[..first], out);
     let third = expand(Stage::Loops, &out[..second], work);
     expand(Stage::Conditionals, &work[..third], out)
@@ -49,9 +41,9 @@ pub fn convert(routine: &[u8], out: &mut [u8], work: &mut [u8]) -> Verdict
             if work.len() < 8 * n {
                 return Verdict::Refused(Refusal::Room);
             }
-            write_base(routine, out, work);
+            let bytes = write_base(routine, out, work);
             clear(work);
-            Verdict::Accepted(n)
+            Verdict::Accepted(bytes / 8)
         }
     }
 }

@@ -16,7 +16,7 @@ use Rattle.rules.specs.Instruction.{push, actOf, Op, jump, written, decode, ops
 use Rattle.rules.specs.declared.Status.{Status}
 use Rattle.rules.specs.declared.Status.the-variants.{StackFull}
 use Rattle.rules.specs.Stack.{full, pushed}
-use Rattle.rules.specs.Step.{Mem, withStack, Reply, did, stops, perform, agree, branch, does, deed, stepAt, step}
+use Rattle.rules.specs.Step.{Mem, withStack, Acted, did, stops, perform, agree, branch, does, deed, stepAt, step}
 use Rattle.rules.proofs.Records.{recordAt, ops-length, ops-at}
 use Rattle.records.proofs.Reading.{rec-at}
 use Rattle.machine.specs.declared.deed.Own.the-variants.{Push, Pop, Compare, Return}
@@ -38,7 +38,7 @@ push-yes y t f g m = by (full (m .stack)) StackFull (withStack (pushed y (m .sta
     by false w m′ = refl
 
 -- On the other sign yes and no are exchanged.
-minus : (t f : ℕ) (r : Reply) → branch false t f r ≡ branch true f t r
+minus : (t f : ℕ) (r : Acted) → branch false t f r ≡ branch true f t r
 unfolding branch agree
 minus t f (did true m) = refl
 minus t f (did false m) = refl

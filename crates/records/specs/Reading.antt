@@ -1,5 +1,5 @@
 -- A record of a file by its number.
-use Rattle.rules.specs.Words.{ℕ, zero, suc, _+_, _*_, Option, none, some, List, drop}
+use Rattle.rules.specs.Words.{ℕ, Option, none, some, List}
 use Rattle.rules.specs.Numbers.{at}
 use Rattle.rules.specs.Record.{Rec, rec, records}
 

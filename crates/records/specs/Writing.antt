@@ -1,6 +1,6 @@
 -- What a writer leaves in the part lent to it.
 use mathlib.Core.Path.{_≡_}
-use Rattle.rules.specs.Words.{ℕ, cond, List, [], _∷_, _++_, length, drop, leb}
+use Rattle.rules.specs.Words.{ℕ, cond, List, _++_, length, drop, leb}
 use Rattle.rules.specs.Record.{Rec, recordBytes, bytesOf}
 
 -- One record where it has its eight bytes, and nothing where it has not: of the part o it leaves w, and answers k.

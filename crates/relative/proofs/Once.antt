@@ -1,15 +1,12 @@
--- Any two answers that the contract of to_relative or of to_absolute allows are equal, and so is what the output then holds.
+-- For every public function: any two answers that its contract allows are equal, and so is what the output then holds. The contract is
+-- the function's own, as the check reads it from the source.
 use mathlib.Core.Path.{_≡_}
-use Prim.Native.Nat.{ℕ}
-use mathlib.Core.List.{List}
-use Rattle.rules.specs.declared.Verdict.{Verdict}
-use Rattle.rules.specs.Record.{records}
-use Rattle.rules.specs.Relative.{toRelative, toAbsolute}
-use Rattle.rules.specs.Answers.{relating, absoluting, Translated}
+use denote.Ref.{now}
+use Rattle.relative.proofs.to_relative.Reads as to-relative
+use Rattle.relative.proofs.to_absolute.Reads as to-absolute
 
-module _ (s : List ℕ) {o o₁ o₂ : List ℕ} {r₁ r₂ : Verdict} where
-  pub to-relative-once : Translated (relating s o) (toRelative (records s)) o r₁ o₁ → Translated (relating s o) (toRelative (records s)) o r₂ o₂ → (r₁ ≡ r₂) × (o₁ ≡ o₂)
-  to-relative-once a b = (cc, cc)
+to-relative-once : (κs : _) (a : _) (r r′ : _) (e e′ : _) → to-relative.Learnt κs a r e → to-relative.Learnt κs a r′ e′ → (r ≡ r′) × (now (e .1 .0) ≡ now (e′ .1 .0))
+to-relative-once κs a r r′ e e′ p q = (cc, cc)
 
-  pub to-absolute-once : Translated (absoluting s o) (toAbsolute (records s)) o r₁ o₁ → Translated (absoluting s o) (toAbsolute (records s)) o r₂ o₂ → (r₁ ≡ r₂) × (o₁ ≡ o₂)
-  to-absolute-once a b = (cc, cc)
+to-absolute-once : (κs : _) (a : _) (r r′ : _) (e e′ : _) → to-absolute.Learnt κs a r e → to-absolute.Learnt κs a r′ e′ → (r ≡ r′) × (now (e .1 .0) ≡ now (e′ .1 .0))
+to-absolute-once κs a r r′ e e′ p q = (cc, cc)

@@ -1,35 +1,32 @@
--- Checked by hand: the paper's ● cases and its listing example, row by row in the paper's order, and rows of our own beside them.
+-- Checked by hand: the paper's ● cases and its listing example, row by row in the paper's order. Rows of our own stand in Beside.
 -- A row speaks of a file's bytes where it asks what a call answers, and of instructions where it asks what they become.
 use mathlib.Core.Path.{_≡_}
-use Rattle.rules.specs.Words.{ℕ, true, false, List, [], _∷_, map, length, replicate}
-use Rattle.rules.specs.declared.Refusal.the-variants.{Ragged, Kind, Field, Nesting, Skip, Room, Reply, Far}
+use Rattle.rules.specs.Words.{ℕ, true, false, List, [], _∷_, length, replicate}
+use Rattle.rules.specs.declared.Refusal.the-variants.{Nesting, Skip}
 use Rattle.rules.specs.declared.Verdict.the-variants.{Accepted, Refused}
 use Rattle.rules.specs.declared.Status.{Status}
 use Rattle.rules.specs.declared.Status.the-variants.{Ended, StackFull, Spent}
-use Rattle.rules.specs.declared.Outcome.the-variants.{Stopped, TurnedAway}
+use Rattle.rules.specs.declared.Outcome.the-variants.{Stopped}
 use Rattle.rules.specs.declared.Ran.{Ran}
-use Rattle.rules.specs.Record.{rec, bytesOf}
-use Rattle.rules.specs.declared.Notation.the-variants.{Base}
 use Rattle.rules.specs.Instruction.{outside, conditional, loop, Op, act, test, jump, label, goto, goto2, header, separator, end, call, return, file}
 use Rattle.rules.specs.Convert.{convert}
-use Rattle.rules.specs.Relative.{toRelative}
-use Rattle.rules.specs.Run.{statusNumber, runs}
-use Rattle.rules.specs.Answers.{checkRecords, checkRoutine, baseCount, converting, absoluting, noState, runRoutine, runBase}
+use Rattle.rules.specs.Run.{runs}
+use Rattle.rules.specs.Answers.{checkRoutine, baseCount, converting, noState, runRoutine, runBase}
 
-abbrev a : ℕ → Op
+abbrev pub a : ℕ → Op
 a k = act (outside k)
 
-abbrev +a : ℕ → Op
+abbrev pub +a : ℕ → Op
 +a k = test true (outside k)
 
-abbrev -a : ℕ → Op
+abbrev pub -a : ℕ → Op
 -a k = test false (outside k)
 
-abbrev +a⟨ : ℕ → Op
+abbrev pub +a⟨ : ℕ → Op
 +a⟨ k = header conditional true (outside k)
 
 -- Stopped with this status after so many steps, replies used and actions logged, at position 0 with a fresh stack.
-abbrev stoppedAfter : Status → ℕ → ℕ → ℕ → Ran
+abbrev pub stoppedAfter : Status → ℕ → ℕ → ℕ → Ran
 stoppedAfter w steps replies actions =
     record { outcome = Stopped w; state = noState; steps = steps; replies = replies; actions = actions }
 
@@ -78,35 +75,3 @@ Cases =
     × (checkRoutine (file listed) ≡ Accepted 9)
     × (baseCount (file listed) ≡ 11)
     × (convert listed ≡ +a 5 ∷ jump 11 ∷ a 6 ∷ -a 7 ∷ jump 8 ∷ a 8 ∷ jump 10 ∷ a 9 ∷ jump 10 ∷ jump 1 ∷ a 10 ∷ [])
-
--- What the paper says in words and its table does not try.
-unfoldable pub Beside : Type 0
-Beside =
-    -- Eight bytes a record, low byte first.
-    (file (-a 300 ∷ goto2 5 999 ∷ []) ≡ 3 ∷ 0 ∷ 44 ∷ 1 ∷ 0 ∷ 0 ∷ 0 ∷ 0 ∷ 7 ∷ 0 ∷ 5 ∷ 0 ∷ 231 ∷ 3 ∷ 0 ∷ 0 ∷ [])
-    -- Order: the lowest record with fault 3 or 4, 3 first within it.
-    × (checkRoutine (1 ∷ []) ≡ Refused Ragged)
-    × (checkRoutine (bytesOf (rec 1 1000 0 ∷ rec 17 0 0 ∷ [])) ≡ Refused (Field 1))
-    × (checkRoutine (bytesOf (rec 11 0 0 ∷ rec 17 1 0 ∷ [])) ≡ Refused (Kind 2))
-    × (checkRecords Base (bytesOf (rec 1 1001 9999 ∷ rec 2 1002 0 ∷ rec 3 1003 7 ∷ rec 1 1002 1 ∷ [])) ≡ Refused (Field 4))
-    -- The lowest opener never closed; a second separator doesn't fit.
-    × (checkRoutine (file (a 1 ∷ +a⟨ 1 ∷ +a⟨ 2 ∷ end conditional ∷ header loop true (outside 3) ∷ [])) ≡ Refused (Nesting 2))
-    × (checkRoutine (file (+a⟨ 1 ∷ separator ∷ separator ∷ end conditional ∷ [])) ≡ Refused (Nesting 3))
-    -- A conditional without separator ends, in header and in }.
-    × (convert (+a⟨ 1 ∷ a 2 ∷ end conditional ∷ a 3 ∷ []) ≡ -a 1 ∷ jump 0 ∷ a 2 ∷ jump 0 ∷ a 3 ∷ [])
-    × (runs (+a⟨ 1 ∷ a 2 ∷ end conditional ∷ a 3 ∷ []) (0 ∷ []) (0 ∷ 0 ∷ []) 9 .steps ≡ 1)
-    × (runs (+a⟨ 1 ∷ a 2 ∷ end conditional ∷ a 3 ∷ []) (1 ∷ 1 ∷ 1 ∷ []) (replicate 6 0) 9 .steps ≡ 3)
-    -- A return that is not the last record has the chain for n.
-    × (length (convert (return ∷ a 1 ∷ [])) ≡ 14)
-    -- A return that finds n+1 on top ends without a pop, and so does its chain.
-    × (runs (jump 3 ∷ return ∷ call 2 ∷ []) [] [] 9 .mem .stack .depth ≡ 1)
-    × (runs (convert (jump 3 ∷ return ∷ call 2 ∷ [])) [] [] 99 .mem .stack .depth ≡ 1)
-    -- Statuses are tried in the order 1, 5, 2, 3, 4.
-    × (map statusNumber (runs [] [] [] 0 .status ∷ runs (a 1 ∷ []) [] [] 0 .status ∷ runs (a 1 ∷ []) [] [] 1 .status ∷ runs (a 1 ∷ []) (1 ∷ []) (0 ∷ []) 1 .status ∷ []) ≡ 1 ∷ 5 ∷ 2 ∷ 3 ∷ [])
-    -- A refused run writes nothing and has ended; 9 comes after the routine's own checks, 8 after 11.
-    × (runRoutine (file (a 1 ∷ [])) (1 ∷ 2 ∷ []) (7 ∷ 7 ∷ []) 9 ≡ record { answer = record { outcome = TurnedAway (Reply 2); state = noState; steps = 0; replies = 0; actions = 0 }; log = 7 ∷ 7 ∷ [] })
-    × (converting (file (call 1 ∷ [])) (file (a 1 ∷ a 1 ∷ [])) (file (a 1 ∷ [])) ≡ Refused Room)
-    × (absoluting (bytesOf (rec 17 9999 0 ∷ [])) [] ≡ Refused (Far 1))
-    -- ##3; a1; +a2 becomes forward 2, a1, +a2; ##k at k is forward 0, below it backward.
-    × (toRelative (rec 4 3 0 ∷ rec 1 1 0 ∷ rec 2 2 0 ∷ []) ≡ rec 17 2 0 ∷ rec 1 1 0 ∷ rec 2 2 0 ∷ [])
-    × (toRelative (rec 4 0 0 ∷ rec 4 2 0 ∷ rec 4 1 0 ∷ []) ≡ rec 19 0 0 ∷ rec 17 0 0 ∷ rec 18 2 0 ∷ [])

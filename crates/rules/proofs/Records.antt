@@ -4,7 +4,7 @@
 --     Bytes, bytes-drop     every byte is below 256
 --     bytes-append, bytes-length, bytes-count     the bytes of joined lists; eight a record
 --     recordsOf-length, records-length     how many records are read
---     Small, read-back, records-back     what was written as records is read back, whatever follows, where x and y fit two bytes
+--     Small, two-bytes, read-back, records-back     what was written as records is read back, whatever follows, where x and y fit two bytes
 --     recordAt, record-drop, recordsOf-drop, recordsOf-getD, records-getD, records-at, records-none     record k + 1, by byte position
 --     recordAt-small, recordsOf-small, records-small     fields read from bytes fit two bytes
 --     ops-length, ops-getD, ops-at, ops-none, ops-drop, ops-end     the same of the instructions
@@ -87,7 +87,7 @@ records-length s = recordsOf-length (count s) s
 abbrev pub Small : Rec → Type 0
 Small r = (r .x < 65536) × (r .y < 65536)
 
-two-bytes : (x : ℕ) → x < 65536 → x % 256 + 256 * (x / 256 % 256) ≡ x
+pub two-bytes : (x : ℕ) → x < 65536 → x % 256 + 256 * (x / 256 % 256) ≡ x
 two-bytes x h = omega arith
 
 pub read-back : (rs : List Rec) (t : List ℕ) → All Small rs → recordsOf (length rs) (bytesOf rs ++ t) ≡ rs

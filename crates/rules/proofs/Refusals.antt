@@ -1,5 +1,5 @@
 -- How a call's checks follow one another.
---     or-none, first-append, refused-then, accepted-then     checks with more behind them: an earlier refusal stays, and where there is none the later ones decide
+--     or-none, neither, first-append, refused-then, accepted-then     checks with more behind them: an earlier refusal stays, and where there is none the later ones decide
 --     accepted-count, accepted-none, none-first, none-then     what is accepted, and that no check of it found anything
 --     when-none, whenAt-none     a check that finds nothing: its test is false, its place 0
 --     Fine, fine     no refusal 1 to 4: no bytes left over, not too many records, none with a fault
@@ -29,6 +29,11 @@ pub or-none : (c : Option Refusal) → orElse c none ≡ c
 unfolding orElse
 or-none none = refl
 or-none (some r) = refl
+
+pub neither : (c d : Option Refusal) → orElse c d ≡ none → (c ≡ none) × (d ≡ none)
+unfolding orElse
+neither none d e = (refl, e)
+neither (some r) d e = absurd (let z : _≡_ {A = ℕ} 0 1 = cc in omega arith)
 
 pub first-append : (cs ds : List (Option Refusal)) → first (cs ++ ds) ≡ orElse (first cs) (first ds)
 unfolding first orElse
@@ -68,16 +73,12 @@ module _ (cs : List (Option Refusal)) (m : ℕ) where
 
 module _ (c : Option Refusal) (cs : List (Option Refusal)) where
   pub none-first : first (c ∷ cs) ≡ none → c ≡ none
-  unfolding first orElse
-  none-first e = by c e
-    where
-      by : (c : Option Refusal) → orElse c (first cs) ≡ none → c ≡ none
-      by none e = refl
-      by (some r) e = e
+  unfolding first
+  none-first e = neither c (first cs) e .0
 
   pub none-then : first (c ∷ cs) ≡ none → first cs ≡ none
-  unfolding first orElse
-  none-then e = rw (none-first e) at e
+  unfolding first
+  none-then e = neither c (first cs) e .1
 
 pub when-none : (b : Bool) (r : Refusal) → when b r ≡ none → b ≡ false
 unfolding when
@@ -121,18 +122,10 @@ pub record Admitted (s : List ℕ) (n : ℕ) : Type 0 where
   pub allowed : skip (ops s) ≡ 0
   pub room : convertedLength (ops s) ≤ 4096
 
-apart : (cs ds : List (Option Refusal)) → first (cs ++ ds) ≡ none → (first cs ≡ none) × (first ds ≡ none)
-unfolding orElse
-apart cs ds e = by (first cs) refl (sym (first-append cs ds) ∙ e)
-  where
-    by : (c : Option Refusal) → first cs ≡ c → orElse c (first ds) ≡ none → (first cs ≡ none) × (first ds ≡ none)
-    by none q e = (q, e)
-    by (some r) q e = absurd (let z : _≡_ {A = ℕ} 0 1 = cc in omega arith)
-
 pub admitted : (s : List ℕ) (n : ℕ) → checkRoutine s ≡ Accepted n → Admitted s n
 unfolding checkRoutine routineChecks grown
 admitted s n e =
-    let a = apart (recordChecks Routine s) _ (accepted-none _ (count s) e) in
+    let a = neither (first (recordChecks Routine s)) _ (sym (first-append (recordChecks Routine s) _) ∙ accepted-none _ (count s) e) in
     let b = none-then _ _ (a .1) in
     record {
       fines = fine Routine s (a .0);

@@ -73,14 +73,14 @@ logIsFull m = ltb (length (m .log) - 2 * m .logged) 2
 
 -- ## Doing an action: a reply, or a stop before it
 
-pub data Reply : Type 0 where
-  did : Bool → Mem → Reply
-  stops : Status → Reply
+pub data Acted : Type 0 where
+  did : Bool → Mem → Acted
+  stops : Status → Acted
 
 -- An outside action stops with 2, no reply left, then 3, log full. Push replies yes, or stops with 4, stack full; pop replies no on
 -- empty, else yes; compare replies yes exactly if not empty and the top equals y, and keeps it. These three use no outside reply and
 -- aren't logged.
-unfoldable pub perform : Act → Mem → Reply
+unfoldable pub perform : Act → Mem → Acted
 perform (outside a) m = cond (noReplyLeft m) (stops NoReply) (cond (logIsFull m) (stops LogFull) (did (reply m) (logging a m)))
 perform (push y) m = cond (full (m .stack)) (stops StackFull) (did true (withStack (pushed y (m .stack)) m))
 perform pop m = did (nonempty (top (m .stack))) (withStack (popped (m .stack)) m)
@@ -96,7 +96,7 @@ pub data Out : Type 0 where
 unfoldable pub agree : Bool → Bool → Bool
 agree v r = cond v r (not r)
 
-unfoldable pub branch : Bool → ℕ → ℕ → Reply → Out
+unfoldable pub branch : Bool → ℕ → ℕ → Acted → Out
 branch v t f (did r m) = go (cond (agree v r) t f) m
 branch v t f (stops s) = halt s
 

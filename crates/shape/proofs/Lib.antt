@@ -1,4 +1,3 @@
 pub mod Bodies
-pub mod Lengths
 pub mod Verdicts
 pub mod Once

@@ -1,10 +1,11 @@
--- The verdict on a routine: what `checks` finds, then refusals 5 to 7.
---     check-refused, check-on, not-long     after refusals 1 to 4
---     nesting-refused, skip-refused, growth-refused, shape-accepted     5, 6 and 7
-use mathlib.Core.Path.{_≡_, refl, _∙_}
+-- The verdict on a routine: refusals 1 to 4 first, then 5, 6 and 7, each where no earlier one is given.
+--     passes, refuses     the next check finds nothing, or finds its refusal
+--     check-refused     a routine with one of refusals 1 to 4
+--     not-long, nesting-refused, skip-refused, growth-refused, accepted     a routine with none of them
+use mathlib.Core.Path.{_≡_, refl, sym, ap, _∙_}
 use Prim.Native.Nat.{ℕ, zero, suc, _≤_, _<_}
-use mathlib.Core.Option.{some}
-use mathlib.Core.List.{List}
+use mathlib.Core.Option.{Option, none, some}
+use mathlib.Core.List.{List, [], _∷_}
 use borrow.Author.Tests.{lt-ltb, le-ltb}
 use Rattle.rules.specs.declared.Refusal.{Refusal}
 use Rattle.rules.specs.declared.Refusal.the-variants.{Nesting, Skip, Growth}
@@ -18,47 +19,65 @@ use Rattle.rules.specs.Nesting.{nesting}
 use Rattle.rules.specs.Skip.{skip, convertedLength, grown}
 use Rattle.rules.specs.Answers.{routineChecks, checkRecords, checkRoutine}
 use Rattle.rules.proofs.Refusals.{refused-then, accepted-then, accepted-count, held}
-use Rattle.shape.specs.Length.{baseLength}
-use Rattle.shape.specs.Checking.{shapeChecks, shapeVerdict}
-use Rattle.shape.proofs.Lengths.{base-is}
+use Rattle.growth.specs.Length.{baseLength}
+use Rattle.growth.proofs.Lengths.{base-is}
 
-at-place : (r : ℕ → Refusal) (k : ℕ) → ¬ (k ≡ 0) → whenAt r k ≡ some (r k)
+-- ## One check after another
+
+module _ (c : Option Refusal) (cs : List (Option Refusal)) (n : ℕ) where
+  passes : c ≡ none → verdict (c ∷ cs) n ≡ verdict cs n
+  unfolding verdict first orElse
+  passes e = rw e
+
+  refuses : {r : Refusal} → c ≡ some r → verdict (c ∷ cs) n ≡ Refused r
+  unfolding verdict verdictOf first orElse
+  refuses e = rw e
+
+-- A check by a place that was found.
+at-place : (r : ℕ → Refusal) {j : ℕ} (k : ℕ) → k ≡ j → ¬ (k ≡ 0) → whenAt r j ≡ some (r k)
 unfolding whenAt
-at-place r zero z = absurd (z refl)
-at-place r (suc k) z = refl
+at-place r zero e z = absurd (z refl)
+at-place r (suc k) e z = rw (← e)
+
+no-place : (r : ℕ → Refusal) {j k : ℕ} → k ≡ j → k ≡ 0 → whenAt r j ≡ none
+unfolding whenAt
+no-place r e z = rw (← e, z)
+
+-- ## The checks of a routine
 
 module _ (s : List ℕ) where
-  -- ## After refusals 1 to 4
-
   pub check-refused : (r : Refusal) → checkRecords Routine s ≡ Refused r → checkRoutine s ≡ Refused r
   unfolding checkRecords checkRoutine routineChecks
   check-refused r e = refused-then (recordChecks Routine s) (count s) _ (count s) e
 
-  pub check-on : (n : ℕ) → checkRecords Routine s ≡ Accepted n → checkRoutine s ≡ shapeVerdict s n
-  unfolding checkRecords checkRoutine routineChecks shapeVerdict shapeChecks
-  check-on n e = accepted-then (recordChecks Routine s) (count s) _ (count s) e ∙ rw (accepted-count (recordChecks Routine s) (count s) e)
+  module _ {n : ℕ} (e : checkRecords Routine s ≡ Accepted n) where
+    pub not-long : count s ≤ 512
+    unfolding most
+    not-long = held Routine s n e .fines .few
 
-  pub not-long : (n : ℕ) → checkRecords Routine s ≡ Accepted n → count s ≤ 512
-  unfolding most
-  not-long n e = held Routine s n e .fines .few
+    module _ {k : ℕ} (f : k ≡ nesting (ops s)) where
+      pub nesting-refused : ¬ (k ≡ 0) → Refused (Nesting k) ≡ checkRoutine s
+      unfolding checkRecords checkRoutine routineChecks
+      nesting-refused z = sym (accepted-then (recordChecks Routine s) (count s) _ (count s) e ∙ refuses _ _ _ (at-place Nesting k f z))
 
-  -- ## 5, 6 and 7
+      module _ (z : k ≡ 0) {j : ℕ} (g : j ≡ skip (ops s)) where
+        pub skip-refused : ¬ (j ≡ 0) → Refused (Skip j) ≡ checkRoutine s
+        unfolding checkRecords checkRoutine routineChecks
+        skip-refused y = sym (accepted-then (recordChecks Routine s) (count s) _ (count s) e ∙ passes _ _ _ (no-place Nesting f z) ∙ refuses _ _ _ (at-place Skip j g y))
 
-  module _ (n : ℕ) {k : ℕ} (e : k ≡ nesting (ops s)) where
-    pub nesting-refused : ¬ (k ≡ 0) → Refused (Nesting k) ≡ shapeVerdict s n
-    unfolding shapeVerdict verdict verdictOf shapeChecks first orElse
-    nesting-refused z = rw (← e, at-place Nesting k z)
+        module _ (y : j ≡ 0) where
+          growth-left : checkRoutine s ≡ verdict (when (grown (ops s)) Growth ∷ []) (count s)
+          unfolding checkRecords checkRoutine routineChecks
+          growth-left = accepted-then (recordChecks Routine s) (count s) _ (count s) e ∙ passes _ _ _ (no-place Nesting f z) ∙ passes _ _ _ (no-place Skip g y)
 
-    module _ (z : k ≡ 0) {j : ℕ} (g : j ≡ skip (ops s)) where
-      pub skip-refused : ¬ (j ≡ 0) → Refused (Skip j) ≡ shapeVerdict s n
-      unfolding shapeVerdict verdict verdictOf shapeChecks first orElse whenAt
-      skip-refused y = rw (← e, z, ← g, at-place Skip j y)
+          module _ {m : ℕ} (c : m ≡ baseLength s) where
+            length-is : m ≡ convertedLength (ops s)
+            length-is = c ∙ base-is s not-long
 
-      module _ (y : j ≡ 0) {m : ℕ} (l : count s ≤ 512) (c : m ≡ baseLength s) where
-        pub growth-refused : 4096 < m → Refused Growth ≡ shapeVerdict s n
-        unfolding shapeVerdict verdict verdictOf shapeChecks first orElse whenAt when grown
-        growth-refused h = let b : m ≡ convertedLength (ops s) = c ∙ base-is s l in rw (← e, z, ← g, y, ← b, lt-ltb 4096 m h)
+            pub growth-refused : 4096 < m → Refused Growth ≡ checkRoutine s
+            unfolding when grown verdict verdictOf first orElse
+            growth-refused h = sym (growth-left ∙ rw (← length-is, lt-ltb 4096 m h))
 
-        pub shape-accepted : m ≤ 4096 → Accepted n ≡ shapeVerdict s n
-        unfolding shapeVerdict verdict verdictOf shapeChecks first orElse whenAt when grown
-        shape-accepted h = let b : m ≡ convertedLength (ops s) = c ∙ base-is s l in rw (← e, z, ← g, y, ← b, le-ltb 4096 m h)
+            pub accepted : m ≤ 4096 → Accepted n ≡ checkRoutine s
+            unfolding checkRecords when grown verdict verdictOf first orElse
+            accepted h = ap Accepted (accepted-count (recordChecks Routine s) (count s) e) ∙ sym (growth-left ∙ rw (← length-is, le-ltb 4096 m h))

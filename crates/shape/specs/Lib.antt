@@ -1,3 +1,1 @@
 pub mod Reading
-pub mod Length
-pub mod Checking

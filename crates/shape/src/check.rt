@@ -1,21 +1,18 @@
 // The checks of a routine, 1 to 7, in the paper's order.
 use crate::nesting::nesting_place;
-use crate::skip::base_count;
-use crate::skip::skip_place;
 use checks::check_records;
+use growth::base_count;
+use growth::skip_place;
 use rules::Notation;
 use rules::Refusal;
 use rules::Verdict;
 ghost use mathlib.Core.Path.{_≡_};
-ghost use Prim.Native.Nat.{_≤_};
-ghost use Rattle.rules.specs.Record.{count};
-ghost use Rattle.rules.specs.Answers.{checkRoutine};
-ghost use Rattle.shape.specs.Checking.{shapeVerdict};
+ghost use Rattle.rules.specs.Answers.{checkRecords, checkRoutine};
 
-// 5, 6 and 7 of a file of n records.
+// 5, 6 and 7 of a file that has none of refusals 1 to 4.
 fn check_shape(s: &[u8], n: usize) -> Verdict
-    requires { ⌜ count (now s) ≤ 512 ⌝ }
-    ensures { λ r. ⌜ r ≡ shapeVerdict (now (s .entry)) n ⌝ }
+    requires { ⌜ checkRecords Notation.Routine (now s) ≡ Verdict.Accepted n ⌝ }
+    ensures { λ r. ⌜ r ≡ checkRoutine (now (s .entry)) ⌝ }
 {
     let misfit = nesting_place(s);
     if misfit != 0 {

@@ -130,8 +130,9 @@ fn read_item(s: &[u8], at: usize) -> Read
 }
 
 // The place of refusal 5: the first separator or end that does not fit the innermost open item; if none, the lowest opener never
-// closed; 0 where the routine is one body.
-pub fn nesting_place(s: &[u8]) -> usize
+// closed; 0 where the routine is one body. The readers call each other as deep as the items nest, so the file is not a long one.
+pub(crate) fn nesting_place(s: &[u8]) -> usize
+    requires { ⌜ count (now s) ≤ 512 ⌝ }
     ensures { λ r. ⌜ r ≡ rule.nesting (ops (now (s .entry))) ⌝ }
 {
     let body = read_body(s, 0);

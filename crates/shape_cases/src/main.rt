@@ -58,7 +58,7 @@ fn judge(name: &[u8], file: &[u8], n: usize) {
     match verdict {
         Verdict::Accepted(records) => {
             words(b": accepted ", records);
-            words(b", base ", shape::base_count(routine));
+            words(b", base ", growth::base_count(routine));
         }
         Verdict::Refused(refusal) => {
             words(b": refused ", listing::number_of(refusal));

@@ -1,8 +1,8 @@
 //! The proved library and the plain Rust one, timed on the same inputs.
 //!
-//! `bench` prints a table of times, `bench names` the cases, and
-//! `bench one NAME SIDE COUNT` makes one side's call COUNT times and nothing
-//! else, for a tool that counts instructions.
+//! `bench` prints a table of times, `bench NAME ..` the rows of those names,
+//! `bench names` the names, and `bench one NAME SIDE COUNT` makes one side's call
+//! COUNT times and nothing else, for a tool that counts instructions.
 
 #![forbid(unsafe_code)]
 
@@ -14,16 +14,20 @@ use std::process::ExitCode;
 
 use cases::{all_cases, Case, Side};
 
-const USAGE: &str = "usage: bench | bench names | bench one NAME proved|ordinary COUNT";
+const USAGE: &str = "usage: bench [NAME ..] | bench names | bench one NAME proved|ordinary COUNT";
 
 fn main() -> ExitCode {
     let arguments: Vec<String> = env::args().skip(1).collect();
     let arguments: Vec<&str> = arguments.iter().map(String::as_str).collect();
     let done = match arguments[..] {
-        [] => table(),
+        [] => table(all_cases()),
         ["names"] => names(),
         ["one", name, side, count] => one(name, side, count),
-        _ => Err(USAGE.to_string()),
+        _ => arguments
+            .iter()
+            .map(|name| find(name))
+            .collect::<Result<Vec<Case>, String>>()
+            .and_then(table),
     };
     match done {
         Ok(()) => ExitCode::SUCCESS,
@@ -57,21 +61,22 @@ fn one(name: &str, side: &str, count: &str) -> Result<(), String> {
 
 fn find(name: &str) -> Result<Case, String> {
     let found = all_cases().into_iter().find(|case| case.name == name);
-    found.ok_or_else(|| format!("no case {name}: see `bench names`"))
+    found.ok_or_else(|| format!("no case {name}: see `bench names`\n{USAGE}"))
 }
 
 const METHOD: &str = "\
 Both sides get the same bytes and the same buffers, in one process, taking turns.
-A sample is so many calls that it lasts about a millisecond; a time is the median
-of the samples, divided by the calls, and the ratio is the median of the samples'
-own ratios, with its lower and upper quartile. Quartiles far apart tell of a busy
-machine; the last column, the ratio of each side's fastest sample, bears that best.
-Buffers are made once for each case and are not cleared between calls: `convert` is lent 32,768 bytes for its output
-and as many to work in, and clears the latter itself, as it must; runs write over
-the log of the run before. Checks are part of every call. A run is of 100,000 steps.
+A sample is so many calls that it lasts about half a millisecond. Times are of each
+side's fastest sample, divided by its calls, and so is the ratio; beside it stands
+the median of the samples' own ratios, with its quartiles. Quartiles far apart tell
+of a busy machine, which the fastest samples bear best.
+Buffers are made once for each case and are not cleared between calls: `convert` is
+lent 32,768 bytes for its output and as many to work in, and clears the latter
+itself, as it must; runs write over the log of the run before. Checks are part of
+every call.
 ";
 
-fn table() -> Result<(), String> {
+fn table(cases: Vec<Case>) -> Result<(), String> {
     if cfg!(debug_assertions) {
         return Err(
             "times mean nothing in a debug build: use `cargo run --release -p bench`".into(),
@@ -79,22 +84,22 @@ fn table() -> Result<(), String> {
     }
     println!("{METHOD}");
     println!(
-        "| Case | Done in a call | Proved, us | Ordinary, us | Proved / ordinary | Quartiles | Of the fastest |"
+        "| Case | Done in a call | Proved, us | Ordinary, us | Proved / ordinary | Median | Quartiles |"
     );
-    println!("|---|---|---:|---:|---:|---|---:|");
-    for mut case in all_cases() {
+    println!("|---|---|---:|---:|---:|---:|---|");
+    for mut case in cases {
         let done = case.agreed()?;
         let times = timing::measure(&mut case);
         println!(
-            "| {}: {} | {done} | {:.2} | {:.2} | {:.2} | {:.2} to {:.2} | {:.2} |",
+            "| {}: {} | {done} | {:.3} | {:.3} | {:.2} | {:.2} | {:.2} to {:.2} |",
             case.name,
             case.what,
             times.proved,
             times.ordinary,
             times.ratio,
+            times.median,
             times.lower,
-            times.upper,
-            times.fastest
+            times.upper
         );
     }
     Ok(())

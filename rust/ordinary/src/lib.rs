@@ -22,7 +22,7 @@ mod relative;
 mod second_level;
 mod stages;
 
-pub use check::{check_base, check_relative, check_routine, converted_length};
+pub use check::converted_length;
 pub use convert::convert;
 pub use listing::{list, listing, printed};
 pub use machine::{run_base, run_routine, step_base, step_routine, Ran, State, Status, STACK};
@@ -36,3 +36,18 @@ pub const ROUTINE_LIMIT: usize = 512;
 pub const BASE_LIMIT: usize = 4_096;
 /// The greatest number a jump, a call or a stack entry may hold.
 pub const NUMBER_LIMIT: u16 = 9_999;
+
+/// The checks of a routine: how many records it has, or the first refusal.
+pub fn check_routine(routine: &[u8]) -> Result<usize, Refusal> {
+    check::check_routine(routine).map(|records| records.len())
+}
+
+/// The checks of a base.
+pub fn check_base(base: &[u8]) -> Result<usize, Refusal> {
+    check::check_base(base).map(|records| records.len())
+}
+
+/// The checks of a relative base.
+pub fn check_relative(relative: &[u8]) -> Result<usize, Refusal> {
+    check::check_relative(relative).map(|records| records.len())
+}

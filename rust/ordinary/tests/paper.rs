@@ -532,7 +532,7 @@ fn odd_sizes() {
         Err(refused(Reason::Long, 0))
     );
     let full = bytes_of(&vec![Record::new(kind::ACTION, 1, 0); 4_096]);
-    assert_eq!(check_base(&full).map(|records| records.len()), Ok(4_096));
+    assert_eq!(check_base(&full), Ok(4_096));
 }
 
 #[test]
@@ -548,7 +548,7 @@ fn bytes_that_must_be_zero() {
     }
 }
 
-type Check = fn(&[u8]) -> Result<Vec<Record>, Refusal>;
+type Check = fn(&[u8]) -> Result<usize, Refusal>;
 
 /// Which of these values a field may have, by trying each alone.
 fn accepted(check: Check, record: impl Fn(u16) -> Record) -> Vec<u16> {

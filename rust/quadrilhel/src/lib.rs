@@ -22,10 +22,12 @@
 
 pub mod c;
 mod machine;
+mod needs;
 mod refusal;
 
 pub use c::State;
 pub use machine::{run_base, run_routine, step_base, step_routine, Ran, Status};
+pub use needs::STACK_NEEDS;
 pub use refusal::Refusal;
 
 /// Bytes in a record.

@@ -141,8 +141,13 @@ impl fmt::Display for Refusal {
             Refusal::Skip { record } => write!(
                 f,
                 "the test at record {record} stands directly before a block, loop, call or \
-                 return, which it cannot skip as one record: put another record between them, \
-                 or use a block header for the test"
+                 return, which it cannot skip as one record: put a call or return into a block \
+                 with two arms, +a1; R##k as +a1{{; R##k; }}{{; }}; before a block or loop give \
+                 the test the other sign and put a jump behind it to the record that it would \
+                 have skipped to, +a1; +a2{{ as -a1; ##{}; +a2{{; then raise every ##k and R##k \
+                 that names a record behind those put in. A label or an action between them is \
+                 no help: what follows is then done on yes and on no",
+                record.saturating_add(3)
             ),
             Refusal::Growth => f.write_str(
                 "the converted routine would have more than 4,096 records: use fewer returns \

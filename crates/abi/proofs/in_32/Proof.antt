@@ -1,7 +1,7 @@
 use mathlib.Core.Path.{_≡_}
 use borrow.Author.Needs.{needs}
 use borrow.Author.Tests.{le-leb, lt-leb}
-use Rattle.abi.specs.Told.{in32}
+use Rattle.abi.specs.Exported.{in32}
 use Rattle.abi.proofs.in_32.Statement.{statement}
 use Rattle.abi.proofs.in_32.Tie as tie
 

@@ -1,6 +1,6 @@
 use mathlib.Core.Path.{_≡_, refl}
 use borrow.Author.Needs.{needs}
-use Rattle.abi.specs.Told.{stateGiven}
+use Rattle.abi.specs.Exported.{stateGiven}
 use Rattle.abi.proofs.state_given.Statement.{statement}
 use Rattle.abi.proofs.state_given.Tie as tie
 

@@ -1,6 +1,6 @@
 use mathlib.Core.Path.{_≡_}
 use borrow.Author.Needs.{needs}
-use Rattle.abi.specs.Told.{refusalTold, placeTold, statusTold, ranTold}
+use Rattle.abi.specs.Exported.{refusalTold, placeTold, statusTold, ranTold}
 use Rattle.abi.proofs.tell_ran.Statement.{statement}
 use Rattle.abi.proofs.tell_ran.Tie as tie
 

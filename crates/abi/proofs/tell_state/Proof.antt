@@ -1,6 +1,6 @@
 use mathlib.Core.Path.{_≡_, refl}
 use borrow.Author.Needs.{needs}
-use Rattle.abi.specs.Told.{stateTold}
+use Rattle.abi.specs.Exported.{stateTold}
 use Rattle.abi.proofs.tell_state.Statement.{statement}
 use Rattle.abi.proofs.tell_state.Tie as tie
 

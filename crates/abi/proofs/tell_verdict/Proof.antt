@@ -1,6 +1,6 @@
 use mathlib.Core.Path.{_≡_}
 use borrow.Author.Needs.{needs}
-use Rattle.abi.specs.Told.{verdictTold}
+use Rattle.abi.specs.Exported.{verdictTold}
 use Rattle.abi.proofs.tell_verdict.Statement.{statement}
 use Rattle.abi.proofs.tell_verdict.Tie as tie
 

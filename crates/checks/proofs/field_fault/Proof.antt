@@ -1,43 +1,44 @@
-use mathlib.Core.Path.{_≡_, sym, _∙_}
+use mathlib.Core.Path.{_≡_, sym, ap, _∙_}
+use Prim.Native.Nat.{ℕ, _+_, _*_}
+use native.Mathlib.Omega.{arith}
 use borrow.Author.Needs.{needs}
 use mathlib.Core.Bool.{Bool, true, false, not, _&&_}
 use mathlib.Core.Option.{some}
+use mathlib.Core.List.{List}
+use lib.ListN.{drop, getD}
 use Rattle.rules.specs.declared.Notation.{Notation}
 use Rattle.rules.specs.declared.Row.{Row}
-use Rattle.rules.specs.Record.{Rec}
-use Rattle.rules.specs.Table.{rowOf}
-use Rattle.rules.specs.Checks.{inRow, stackAction, hasStack, fieldFault}
-use Rattle.checks.specs.Entries.{entryOf}
-use Rattle.checks.specs.declared.table.Entry.{Entry}
-use Rattle.checks.specs.declared.table.Entry.the-variants.{Listed, Unlisted}
-use Rattle.checks.proofs.Faults.{listed-is, unlisted-is}
+use Rattle.rules.specs.Record.{rec, recordOf}
+use Rattle.rules.specs.Checks.{inRow, stackAction, hasStack}
+use Rattle.rules.proofs.Records.{record-drop}
+use Rattle.checks.specs.Ranges.{outside}
 use Rattle.checks.proofs.field_fault.Statement.{statement}
 use Rattle.checks.proofs.field_fault.Tie as tie
 
--- the fault, by what the table has for the kind and what the row and the stack say
-module _ (nt : Notation) (r : Rec) (e : Entry) (told : e ≡ entryOf (rowOf nt (r .kind))) where
-  fits : (row : Row) (t : Bool) → e ≡ Listed row → t ≡ inRow (some row) r → t ≡ true → false ≡ fieldFault nt r
-  unfolding fieldFault
-  fits row t p q h = rw (listed-is (rowOf nt (r .kind)) row (sym told ∙ p), ← q, h)
+-- the fault, by what the row and the stack say of the fields that were read
+module _ (nt : Notation) (row : Row) (s : List ℕ) (k : ℕ) {x y : ℕ} {t : Bool}
+    (ex : x ≡ getD s (8 * k + 2) 0 + 256 * getD s (8 * k + 3) 0) (ey : y ≡ getD s (8 * k + 4) 0 + 256 * getD s (8 * k + 5) 0) (e : t ≡ inRow (some row) (rec 0 x y)) where
+  here : rec (getD s (8 * k) 0) x y ≡ recordOf (drop (8 * k) s)
+  here = rw (ex, ey) (sym (record-drop s k))
 
-  fits-not : (row : Row) (t a : Bool) → e ≡ Listed row → t ≡ inRow (some row) r → t ≡ false → a ≡ (hasStack nt && stackAction r) → not a ≡ fieldFault nt r
-  unfolding fieldFault
-  fits-not row t a p q h g = rw (listed-is (rowOf nt (r .kind)) row (sym told ∙ p), ← q, h, ← g)
+  in-range : t ≡ inRow (some row) (recordOf (drop (8 * k) s))
+  unfolding inRow
+  in-range = e ∙ ap (inRow (some row)) here
 
-  unlisted : (a : Bool) → e ≡ Unlisted → a ≡ (hasStack nt && stackAction r) → not a ≡ fieldFault nt r
-  unfolding fieldFault inRow
-  unlisted a p g = rw (unlisted-is (rowOf nt (r .kind)) (sym told ∙ p), ← g)
+  fits : t ≡ true → false ≡ outside nt (some row) (recordOf (drop (8 * k) s))
+  unfolding outside
+  fits h = rw (← in-range, h)
+
+  fits-not : {a : Bool} → t ≡ false → a ≡ (hasStack nt && stackAction (rec (getD s (8 * k) 0) x y)) → not a ≡ outside nt (some row) (recordOf (drop (8 * k) s))
+  unfolding outside
+  fits-not h g = rw (← in-range, h, ← here, ← g)
 
 pub field-fault-spec : {M : Type 1} → statement M
 field-fault-spec =
     tie.close
     (tie.spec
-    (λ c κs. search needs)
-    (λ c. search needs)
-    (λ c κs. search needs)
-    (λ c κs. search needs)
-    (λ c. search needs)
-    (λ c κs. search needs)
-    (λ c. fits _ _ _ (c .before .before .before .before .before .row-of .ensures) _ _ (c .before .before .before .entry .given .1) (c .before .in-row .ensures) (c .if1 .taken))
-    (λ c. fits-not _ _ _ (c .before .before .before .before .before .before .row-of .ensures) _ _ _ (c .before .before .before .before .entry .given .1) (c .before .before .in-row .ensures) (c .before .if1 .left) (c .own-action .ensures))
-    (λ c. unlisted _ _ _ (c .before .before .before .row-of .ensures) _ (c .before .enum-told .given .1) (c .own-action2 .ensures)))
+    (λ c. omega arith) (λ c. omega arith) (λ c. omega arith) (λ c. omega arith) (λ c. omega arith)
+    (λ c κs. search needs) (λ c. omega arith) (λ c. omega arith) (λ c. omega arith) (λ c. omega arith)
+    (λ c κs. search needs) (λ c κs. search needs) (λ c. omega arith) (λ c κs. search needs)
+    (λ c. let y = c .before .before in let x = y .before .before .before in fits _ _ (x .before .before .before .before .args .s .now) _ (x .number .ensures) (y .number2 .ensures) (c .before .in-row .ensures) (c .if1 .taken))
+    (λ c. let t = c .before .before in let y = t .before .before in let x = y .before .before .before in fits-not _ _ (x .before .before .before .before .args .s .now) _ (x .number .ensures) (y .number2 .ensures) (t .before .in-row .ensures) (t .if1 .left) (c .own-action .ensures)))

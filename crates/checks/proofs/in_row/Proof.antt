@@ -13,11 +13,11 @@ returns-2 c = simp (le-leb _ _ (c .before .before .if1 .left), lt-leb _ _ (c .if
 
 returns-3 : tie.Need-returns-3
 unfolding inRow
-returns-3 c = simp (le-leb _ _ (c .before .before .before .before .if1 .left), le-leb _ _ (c .before .before .if2 .left), lt-leb _ _ (c .if3 .taken))
+returns-3 c = let t = c .before .before in simp (le-leb _ _ (t .before .before .if1 .left), le-leb _ _ (t .if2 .left), lt-leb _ _ (c .if3 .taken))
 
 returns-4 : tie.Need-returns-4
 unfolding inRow
-returns-4 c = simp (le-leb _ _ (c .before .before .before .before .before .if1 .left), le-leb _ _ (c .before .before .before .if2 .left), le-leb _ _ (c .before .if3 .left))
+returns-4 c = let t = c .before .before .before in simp (le-leb _ _ (t .before .before .if1 .left), le-leb _ _ (t .if2 .left), le-leb _ _ (c .before .if3 .left))
 
 pub in-row-spec : {M : Type 1} → statement M
 in-row-spec = tie.close (tie.spec returns returns-2 returns-3 returns-4)

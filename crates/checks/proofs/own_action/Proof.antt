@@ -14,7 +14,6 @@ pub own-action-spec : {M : Type 1} → statement M
 own-action-spec =
     tie.close
     (tie.spec
-    (λ c κs. search needs)
-    (λ c κs. search needs)
+    (λ c κs. search needs) (λ c κs. search needs)
     (λ c. has _ _ _ _ (c .before .before .has-stack .ensures) (c .before .if1 .taken) (c .stack-action .ensures))
     (λ c. has-not _ _ _ (c .before .has-stack .ensures) (c .if1 .left)))

@@ -8,13 +8,13 @@ use Rattle.rules.specs.declared.Status.{Status}
 use Rattle.rules.specs.Instruction.{Act, push, Op, act, test, jump, label, goto, goto2, header, separator, end, call, return}
 use Rattle.rules.specs.Numbers.{at, moveTo}
 use Rattle.rules.specs.Stack.{top, equals}
-use Rattle.rules.specs.Step.{Deed, ask, leap, enter, deed, Mem, Reply, did, stops, perform, Out, go, halt, agree, branch, does, stepAt, step}
+use Rattle.rules.specs.Step.{Deed, ask, leap, enter, deed, Mem, Acted, did, stops, perform, Out, go, halt, agree, branch, does, stepAt, step}
 use Rattle.faithful.proofs.Inner.Places.{clash, move-in}
 
 -- ## What a step costs in the base
 
 -- A header: 1 if its body is entered, else 2.
-unfoldable pub forkCost : Bool → Reply → ℕ
+unfoldable pub forkCost : Bool → Acted → ℕ
 forkCost v (did r m) = cond (agree v r) 1 2
 forkCost v (stops s) = 1
 
@@ -143,7 +143,7 @@ module _ (L′ : List Op) (n : ℕ) (P : ℕ → ℕ) where
     unfolding does branch
     asked o a v t f t′ f′ e d g h = by (perform a m) (step-is L′ q o m e ∙ ap (λ (x : Deed). does (length L′) x m) d)
       where
-        by : (x : Reply) → step L′ q m ≡ branch v (here t′) (here f′) x → Meets L′ P q m (cost (length L′) o m) (branch v (there t) (there f) x)
+        by : (x : Acted) → step L′ q m ≡ branch v (here t′) (here f′) x → Meets L′ P q m (cost (length L′) o m) (branch v (there t) (there f) x)
         by (did r m₁) s = steps-to e s (chosen (agree v r) (there t) (there f) _ _ g h)
         by (stops w) s = s
 
@@ -177,7 +177,7 @@ module _ (L′ : List Op) (n : ℕ) (P : ℕ → ℕ) where
         two true m₁ s = steps-to q m e s g
         two false m₁ s = then-jumps f f′ s (cost-is L′ q _ m e) e₁ h
 
-        by : (x : Reply) → step L′ q m ≡ branch (not v) (here (suc q)) (here (suc (suc q))) x → Meets L′ P q m (forkCost v x) (branch v (there t) (there f) x)
+        by : (x : Acted) → step L′ q m ≡ branch (not v) (here (suc q)) (here (suc (suc q))) x → Meets L′ P q m (forkCost v x) (branch v (there t) (there f) x)
         by (did r m₁) s = two (agree v r) m₁ (s ∙ ap (λ (b : Bool). go (cond b (here (suc q)) (here (suc (suc q)))) m₁) (turned v r))
         by (stops w) s = s
 
@@ -190,6 +190,6 @@ module _ (L′ : List Op) (n : ℕ) (P : ℕ → ℕ) where
         same true x = refl
         same false x = refl
 
-        by : (x : Reply) → step L′ q m ≡ branch true (here (suc q)) (here (suc q)) x → Meets L′ P q m 2 (branch true (there k) (there k) x)
+        by : (x : Acted) → step L′ q m ≡ branch true (here (suc q)) (here (suc q)) x → Meets L′ P q m 2 (branch true (there k) (there k) x)
         by (did b m₁) s = rw (same (agree true b) (there k)) (then-jumps k k′ (s ∙ ap (λ (z : ℕ). go z m₁) (same (agree true b) _)) (cost-is L′ q _ m e) e₁ g)
         by (stops w) s = s

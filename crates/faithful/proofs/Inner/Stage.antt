@@ -17,7 +17,7 @@ use Rattle.rules.specs.SecondLevel.{Group, members, renumber, sent, laid, remov
 use Rattle.rules.specs.Stack.{top}
 use Rattle.rules.specs.Step.{deed, Mem, Out, go, halt, leaving, does}
 use Rattle.rules.specs.Run.{startOf}
-use Rattle.rules.proofs.Records.{All, all-append, at-getD, at-none}
+use Rattle.rules.proofs.Records.{at-getD, at-none}
 use Rattle.rules.proofs.SecondLevel.{each-length}
 use Rattle.rules.proofs.Partners.{backAt, back}
 use Rattle.rules.proofs.Computes.{computes}
@@ -25,14 +25,13 @@ use Rattle.faithful.proofs.Inner.Places.{clash, in-or-out, over, over-s
 use Rattle.faithful.proofs.Inner.Simulation.{Sim, simulated, Meets, cost, linkCost, asked, leapt, jumped, opened, called}
 use Rattle.faithful.proofs.Inner.Reading.{From, whole, next, from-at, from-length, from-of, from-over, Seeks, seeks-end, seeks-separator, seek, seek-body, end-of, separator-of, back-one, back-body, header-of, header-found}
 use Rattle.faithful.proofs.Inner.Chain.{Arrives, chain-runs}
-use Rattle.faithful.proofs.Inner.Turns.{sortRank, rank, Calm, Good, Numbered, Turns, keeps, leaps, forks, calls, returns, turn-single, Reads, same, nothing-of, turn-reads, turn-good, turn-numbered}
+use Rattle.faithful.proofs.Inner.Turns.{sortRank, rank, Calm, Good, Turns, keeps, leaps, forks, calls, returns, turn-single, Reads, same, nothing-of, turn-reads, turn-good}
 
--- What a stage gives: a simulation, a list that may stand before the next stage, the same beginning, and no new outside actions.
+-- What a stage gives: a simulation, a list that may stand before the next stage, and the same beginning.
 pub record Staged (k : ℕ) (L L′ : List Op) (P : ℕ → ℕ) : Type 0 where
   pub sim : Sim L L′ P
   pub good : Good k L′
   pub starts : startOf L′ ≡ P (startOf L)
-  pub numbers : All Numbered L → All Numbered L′
 
 over-sent : (to : ℕ → ℕ) (xs : List Op) (q : ℕ) → over (map (sent to) xs) q ≡ over xs q
 over-sent to [] q = refl
@@ -286,12 +285,6 @@ module _ (k : ℕ) (small : k ≤ 2) (f : ℕ → Op → Group) (L : List Op) (g
   good-laid p [] g = tt
   good-laid p (o ∷ os) g = turn-good Q (turns p o (g .0)) _ (calm-laid (plainTest o) (suc p) os (g .2) (g .1)) (good-laid (suc p) os (g .2))
 
-  numbered-laid : (p : ℕ) (os : List Op) → Good (suc k) os → All Numbered os → All Numbered (laid Q (each f p os))
-  unfolding laid each
-  numbered-laid p [] g h = tt
-  numbered-laid p (o ∷ os) g h =
-      all-append Numbered (map (sent Q) (members (f p o))) _ (turn-numbered Q (turns p o (g .0)) (h .0)) (numbered-laid (suc p) os (g .2) (h .1))
-
   pub staged : Staged k L (removed gs) P
   unfolding removed startOf
-  staged = record { sim = sim; good = good-laid 1 L good; starts = goes 1; numbers = numbered-laid 1 L good }
+  staged = record { sim = sim; good = good-laid 1 L good; starts = goes 1 }

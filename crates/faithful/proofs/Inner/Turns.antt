@@ -3,17 +3,15 @@
 use mathlib.Core.Path.{_≡_, refl, sym, _∙_, subst}
 use Prim.Native.Nat.{_≤_, zero-le}
 use native.Mathlib.Omega.{arith}
-use mathlib.Core.List.{map-append}
 use lib.Dec.{T, leb→le}
 use Rattle.rules.specs.Words.{ℕ, zero, suc, Bool, true, false, not, List, [], _∷_, _++_, map, length, leb}
-use Rattle.rules.specs.Instruction.{Act, outside, push, pop, compare, Sort, conditional, loop, Op, act, test, jump, label, goto, goto2, header, separator, end, call, return}
+use Rattle.rules.specs.Instruction.{Act, push, Sort, conditional, loop, Op, act, test, jump, label, goto, goto2, header, separator, end, call, return}
 use Rattle.rules.specs.Nesting.{bracket, Body, nothing, single}
 use Rattle.rules.specs.Skip.{adding, plainTest}
 use Rattle.rules.specs.Partners.{other, roleOf, role}
 use Rattle.rules.specs.SecondLevel.{Group, _▹_, stays, members, sent}
 use Rattle.rules.specs.Calls.{chain}
 use Rattle.rules.specs.Step.{ask, leap, deed, Mem}
-use Rattle.rules.proofs.Records.{All, all-append}
 use Rattle.rules.proofs.Computes.{computes}
 use Rattle.faithful.proofs.Inner.Simulation.{cost}
 use Rattle.faithful.proofs.Inner.Chain.{sent-chain, chain-body}
@@ -49,26 +47,6 @@ Calm true (o ∷ os) = adding o ≡ false
 abbrev pub Good : ℕ → List Op → Type 0
 Good k [] = Unit {0}
 Good k (o ∷ os) = (rank o ≤ k) × Calm (plainTest o) os × Good k os
-
--- An outside action is numbered from 1 on.
-abbrev pub FromOne : Act → Type 0
-FromOne (outside n) = 1 ≤ n
-FromOne (push y) = Unit {0}
-FromOne pop = Unit {0}
-FromOne (compare y) = Unit {0}
-
-abbrev pub Numbered : Op → Type 0
-Numbered (act a) = FromOne a
-Numbered (test v a) = FromOne a
-Numbered (jump k) = Unit {0}
-Numbered (label s) = Unit {0}
-Numbered (goto s) = Unit {0}
-Numbered (goto2 s t) = Unit {0}
-Numbered (header b v a) = FromOne a
-Numbered separator = Unit {0}
-Numbered (end b) = Unit {0}
-Numbered (call k) = Unit {0}
-Numbered return = Unit {0}
 
 -- ## The forms: what a stage that leaves the ranks up to k makes of record i of L
 
@@ -177,18 +155,3 @@ turn-good to (leaps d e ot) os c h = (zero-le, tt, h)
 turn-good to (forks {v = v} {a = a} r d) os c h = (zero-le, before-jump (plainTest (test (not v) a)) _ os, (zero-le, tt, h))
 turn-good to calls os c h = (zero-le, tt, (zero-le, tt, h))
 turn-good {L} {k} to (returns r) os c h = chain-good k r to (length L) os h
-
-chain-numbered : (to : ℕ → ℕ) (j : ℕ) → All Numbered (map (sent to) (members (chain j)))
-unfolding members sent chain
-chain-numbered to zero = (tt, tt)
-chain-numbered to (suc j) =
-    let c = all-append Numbered (map (sent to) (members (chain j))) (end conditional ∷ []) (chain-numbered to j) (tt, tt) in
-    (tt, (tt, (tt, (tt, rw (map-append (sent to) (members (chain j)) (end conditional ∷ [])) c))))
-
-pub turn-numbered : {L : List Op} {k i : ℕ} {o : Op} {g : Group} (to : ℕ → ℕ) → Turns L k i o g → Numbered o → All Numbered (map (sent to) (members g))
-unfolding members sent
-turn-numbered to (keeps {o = o} r) h = (subst (λ (X : Type 0). X) (sym (sent-alike Numbered (λ x y. refl) to o)) h, tt)
-turn-numbered to (leaps d c ot) h = (tt, tt)
-turn-numbered to (forks r d) h = (h, (tt, tt))
-turn-numbered to calls h = (tt, (tt, tt))
-turn-numbered {L} to (returns r) h = chain-numbered to (length L)

@@ -6,9 +6,9 @@ use borrow.Author.Needs.{needs}
 use lib.ListN.{length}
 use Rattle.rules.specs.Record.{count}
 use Rattle.rules.proofs.SecondLevel.{groups}
-use Rattle.listing.specs.Answers.{Printed}
-use Rattle.listing.proofs.Printing.{none, more, sizes}
-use Rattle.listing.proofs.Lines.{lineOf, same-line, room, turn, finish}
+use Rattle.words.specs.Printing.{Printed}
+use Rattle.words.proofs.Printing.{print-none, print-more, print-sizes}
+use Rattle.listing.proofs.Lines.{lineOf, same-line, turn, finish}
 use Rattle.listing.proofs.put_lines.Statement.{statement}
 use Rattle.listing.proofs.put_lines.Tie as tie
 
@@ -20,13 +20,7 @@ abbrev μ-loop : tie.MeasureT-loop
 
 starts : tie.Need-loop-holds Inv-loop μ-loop
 unfolding groups
-starts c = (omega arith, refl, none _)
-
-requires : tie.Need-put-line-requires Inv-loop μ-loop
-requires c κs =
-    let l = c .before .before .before .before .before .loop in
-    rw (← same-line _ _ (c .before .before .before .kind-at .ensures) (c .before .before .x-at .ensures) (c .before .y-at .ensures))
-    (room _ (l .i) (l .inv .2) (c .before .before .before .before .loop-test .taken) (omega (arith, l .inv .1)))
+starts c = (omega arith, refl, print-none _)
 
 again : tie.Need-loop-again Inv-loop μ-loop
 again c =
@@ -45,11 +39,11 @@ put-lines-spec =
     (λ c κs. search needs)
     (λ c κs. search needs)
     (λ c κs. search needs)
-    (λ c. omega (arith, sizes (c .before .before .before .before .loop .inv .2)))
-    (λ c. omega (arith, sizes (c .before .before .before .before .loop .inv .2)))
+    (λ c. omega (arith, print-sizes (c .before .before .before .before .loop .inv .2)))
+    (λ c. omega (arith, print-sizes (c .before .before .before .before .loop .inv .2)))
     (λ c. search needs)
-    requires
-    (λ c. omega (arith, sizes (more (c .before .before .before .before .before .before .before .before .loop .inv .2) (c .before .before .put-line .ensures))))
+    (λ c κs. search needs)
+    (λ c. omega (arith, print-sizes (print-more (c .before .before .before .before .before .before .before .before .loop .inv .2) (c .before .before .put-line .ensures))))
     (λ c. omega arith)
     again
     (λ c. c .before .loop .inv .1)

@@ -10,6 +10,5 @@ unfolding itsSeparator
 item-separator-spec =
     tie.close
     (tie.spec
-    (λ c κs. search needs)
-    (λ c κs. search needs)
+    (λ c κs. search needs) (λ c κs. search needs)
     (λ c. c .separator-of .ensures ∙ ap (separatorOf _) (c .before .conditional-header .ensures)))

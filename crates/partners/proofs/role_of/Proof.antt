@@ -10,8 +10,7 @@ unfolding roleOfKind roleSaid
 role-of-spec =
     tie.close
     (tie.spec
-    (λ c. search needs)
-    (λ c. search needs)
+    (λ c. search needs) (λ c. search needs)
     (λ c. rw (c .before .enum-told .given .1, c .match2 .keys1))
     (λ c. rw (c .before .enum-told .given .1, c .match2 .keys2))
     (λ c. rw (c .before .enum-told .given .1, c .match2 .keys3))

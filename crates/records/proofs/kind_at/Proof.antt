@@ -11,7 +11,5 @@ kind-at-spec =
     (tie.spec
     (λ c. sym (ap (λ (r : Rec). r .kind) (rec-zero _ _ (c .if1 .taken))))
     (λ c. sym (ap (λ (r : Rec). r .kind) (rec-none _ _ (c .if2 .taken))))
-    (λ c. search needs)
-    (λ c. search needs)
-    (λ c. search needs)
+    (λ c. search needs) (λ c. search needs) (λ c. search needs)
     (λ c. sym (ap (λ (r : Rec). r .kind) (rec-at _ _ (c .before .before .if1 .left) (c .before .if2 .left)))))

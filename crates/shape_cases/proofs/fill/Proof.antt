@@ -18,10 +18,6 @@ fill-spec =
     (tie.spec
     Inv-loop
     μ-loop
-    (λ c. search needs)
-    (λ c κs. search needs)
-    (λ c. omega arith)
-    (λ c. omega arith)
+    (λ c. search needs) (λ c κs. search needs) (λ c. omega arith) (λ c. omega arith)
     (λ c. c .before .file .given ∙ c .before .before .before .before .before .loop .inv)
-    (λ c. search needs)
-    (λ c. search needs))
+    (λ c. search needs) (λ c. search needs))

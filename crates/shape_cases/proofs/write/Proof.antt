@@ -19,10 +19,6 @@ write-spec =
     Inv-loop
     μ-loop
     (λ c. refl)
-    (λ c. omega arith)
-    (λ c κs. search needs)
-    (λ c. omega arith)
-    (λ c. omega arith)
+    (λ c. omega arith) (λ c κs. search needs) (λ c. omega arith) (λ c. omega arith)
     (λ c. c .before .file .given ∙ c .before .before .before .before .before .before .loop .inv)
-    (λ c. search needs)
-    (λ c. search needs))
+    (λ c. search needs) (λ c. search needs))

@@ -23,13 +23,10 @@ label-after-spec =
     Inv-loop
     μ-loop
     (λ c. after-start _ _ _)
+    (λ c. omega arith) (λ c. omega arith) (λ c. omega arith) (λ c κs. search needs)
+    (λ c. let k = c .before .before in let t = k .before .before in sym (t .before .loop .inv ∙ found _ _ _ (t .loop-test .taken) (k .if1 .taken) (c .before .x-at .ensures) (c .if2 .taken)))
     (λ c. omega arith)
-    (λ c. omega arith)
-    (λ c. omega arith)
-    (λ c κs. search needs)
-    (λ c. sym (c .before .before .before .before .before .loop .inv ∙ found _ _ _ (c .before .before .before .before .loop-test .taken) (c .before .before .if1 .taken) (c .before .x-at .ensures) (c .if2 .taken)))
-    (λ c. omega arith)
-    (λ c. c .before .before .before .before .before .loop .inv ∙ other-label _ _ _ (c .before .before .before .before .loop-test .taken) (c .before .before .if1 .taken) (c .before .x-at .ensures) (c .if2 .left))
+    (λ c. let k = c .before .before in let t = k .before .before in t .before .loop .inv ∙ other-label _ _ _ (t .loop-test .taken) (k .if1 .taken) (c .before .x-at .ensures) (c .if2 .left))
     (λ c. omega arith)
     (λ c. c .before .before .before .loop .inv ∙ other-kind _ _ _ (c .before .before .loop-test .taken) (c .if1 .left))
     (λ c. sym (c .before .loop .inv ∙ after-out _ _ _ (c .loop-test .left))))

@@ -8,11 +8,7 @@ pub nesting-place-spec : {M : Type 1} → statement M
 nesting-place-spec =
     tie.close
     (tie.spec
-    (λ c κs. search needs)
-    (λ c. search needs)
-    (λ c. search needs)
-    (λ c. search needs)
-    (λ c. search needs)
+    (λ c κs. search needs) (λ c. search needs) (λ c. search needs) (λ c. search needs) (λ c. search needs)
     (λ c. sym (whole-shut _ _ (body-is _ _ _ _ (c .before .before .before .before .read-body .ensures) (c .before .before .body .given .1)) (c .if1 .taken)))
     (λ c. sym (whole-fine _ _ (body-is _ _ _ _ (c .before .before .before .before .read-body .ensures) (c .before .before .body .given .1)) (c .if1 .left)))
     (λ c. sym (whole-misfit _ _ (body-is _ _ _ _ (c .before .before .before .read-body .ensures) (c .before .body2 .given .1))))

@@ -1,0 +1,4 @@
+pub mod Forms
+pub mod Once
+pub mod Places
+pub mod Writing

@@ -1,0 +1,28 @@
+// Stage 1: labels (3.6).
+use partners::target;
+use partners::target2;
+use records::kind_at;
+use records::put_record;
+use records::x_at;
+use records::y_at;
+ghost use Prim.Native.Nat.{_≤_};
+ghost use Rattle.rules.specs.Record.{count};
+ghost use Rattle.records.specs.Reading.{recAt};
+ghost use Rattle.places.specs.Writing.{Fitted};
+ghost use Rattle.stages.specs.Groups.{labelled};
+
+// At place i, [s] becomes ##(i+1); a goto becomes ##m with m its target, 0 if it has none. Any other record stays.
+pub(crate) fn write_group(s: &[u8], i: usize, out: &mut [u8]) -> usize
+    requires { ⌜ (count (now s) ≤ 4096) × (1 ≤ i) × (i ≤ count (now s)) ⌝ }
+    ensures { λ r. ⌜ Fitted (labelled (now (s .entry)) i (recAt (now (s .entry)) i)) (now (out .entry)) (now (out .exit)) r ⌝ }
+{
+    let kind = kind_at(s, i);
+    let x = x_at(s, i);
+    let y = y_at(s, i);
+    match kind {
+        5 => put_record(out, 4, (i + 1) as u16, 0),
+        6 => put_record(out, 4, target(s, x) as u16, 0),
+        7 => put_record(out, 4, target2(s, x, y) as u16, 0),
+        _ => put_record(out, kind, x, y),
+    }
+}

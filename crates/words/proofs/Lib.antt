@@ -1,0 +1,4 @@
+pub mod Decimal
+pub mod Instructions
+pub mod Once
+pub mod Printing
