@@ -1,5 +1,5 @@
 // A routine written as text.
-use checks::check_routine_records;
+use checks::check_records;
 use forms::letter_of;
 use forms::sign;
 use names::is_proper;
@@ -7,6 +7,7 @@ use names::name_size;
 use records::kind_at;
 use records::x_at;
 use records::y_at;
+use rules::Notation;
 use rules::Refusal;
 use rules::Verdict;
 use text::TextRefusal;
@@ -227,7 +228,7 @@ fn show(routine: &[u8], names: &[u8], text: &mut [u8]) -> TextVerdict
 pub fn write_text(routine: &[u8], names: &[u8], text: &mut [u8]) -> TextVerdict
     ensures { λ r. ⌜ Answered (writing (now (routine .entry)) (now (names .entry)) (now (text .entry))) (textWritten (now (routine .entry)) (now (names .entry))) (now (text .entry)) r (now (text .exit)) ⌝ }
 {
-    let checked = check_routine_records(routine);
+    let checked = check_records(Notation::Routine, routine);
     match checked {
         Verdict::Refused(refusal) => TextVerdict::Refused(TextRefusal::Earlier(refusal)),
         Verdict::Accepted(_) => {
