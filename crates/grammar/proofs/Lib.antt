@@ -1,0 +1,4 @@
+pub mod Runs
+pub mod Follows
+pub mod Accepts
+pub mod Apart
