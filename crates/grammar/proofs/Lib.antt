@@ -2,3 +2,4 @@ pub mod Runs
 pub mod Follows
 pub mod Accepts
 pub mod Apart
+pub mod Local
