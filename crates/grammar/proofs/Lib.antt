@@ -3,3 +3,4 @@ pub mod Follows
 pub mod Accepts
 pub mod Apart
 pub mod Local
+pub mod Parts
