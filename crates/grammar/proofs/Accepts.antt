@@ -158,7 +158,7 @@ follows i z pre x y (numbered {p} {ps} n {u} e al lo hi f) ok st =
 
 -- ## A form's bytes with blanks and `;`, or the end, behind them: the form is whole
 
-blank-not-named : (b : ℕ) → inSort Blank b ≡ true → inSort Named b ≡ false
+pub blank-not-named : (b : ℕ) → inSort Blank b ≡ true → inSort Named b ≡ false
 unfolding inSort blank digit letter
 blank-not-named b h =
     by-test (eqb b 9) (λ e. rw (eqb-true b 9 e))

@@ -249,11 +249,11 @@ module _ (w : List ℕ) (at : ℕ) (le : at ≤ length w) where
 
 -- ## All pairs
 
-abbrev allTo : ℕ → (ℕ → Bool) → Bool
+abbrev pub allTo : ℕ → (ℕ → Bool) → Bool
 allTo zero f = true
 allTo (suc n) f = f n && allTo n f
 
-upto : (n : ℕ) (f : ℕ → Bool) (i : ℕ) → T (allTo n f) → i < n → T (f i)
+pub upto : (n : ℕ) (f : ℕ → Bool) (i : ℕ) → T (allTo n f) → i < n → T (f i)
 upto zero f i h lt = absurd (not-suc-le-zero lt)
 upto (suc n) f i h lt =
     ⊎-elim (λ (e : i ≡ n). subst (λ (m : ℕ). T (f m)) (sym e) (left (f n) (allTo n f) h)) (λ (l : i < n). upto n f i (right (f n) (allTo n f) h) l)

@@ -4,3 +4,4 @@ pub mod Accepts
 pub mod Apart
 pub mod Local
 pub mod Parts
+pub mod Instructions
