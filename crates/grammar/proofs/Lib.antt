@@ -5,3 +5,5 @@ pub mod Apart
 pub mod Local
 pub mod Parts
 pub mod Instructions
+pub mod Stuck
+pub mod Place

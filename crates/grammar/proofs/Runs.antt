@@ -76,3 +76,13 @@ span-exact c pre (b ∷ n) z (suc m) p lt h =
     let l : suc (length pre) ≡ length (pre ++ (b ∷ [])) = sym (length-append pre (b ∷ []) ∙ omega arith) in
     let r : span c ((pre ++ (b ∷ [])) ++ (n ++ z)) (length (pre ++ (b ∷ []))) m ≡ length n = span-exact c (pre ++ (b ∷ [])) n z m (p .1) (le-of-suc-le-suc lt) h in
     rw (e, p .0, l, ← append-snoc pre b (n ++ z)) (ap suc r)
+
+-- Looking at no more than those.
+pub span-all : (c : Sort) (pre n z : List ℕ) → All c n → span c (pre ++ (n ++ z)) (length pre) (length n) ≡ length n
+unfolding run
+span-all c pre [] z p = refl
+span-all c pre (b ∷ n) z p =
+    let e : byteAt (pre ++ (b ∷ (n ++ z))) (length pre) ≡ b = getD-append-seam pre b (n ++ z) 0 in
+    let l : suc (length pre) ≡ length (pre ++ (b ∷ [])) = sym (length-append pre (b ∷ []) ∙ omega arith) in
+    let r : span c ((pre ++ (b ∷ [])) ++ (n ++ z)) (length (pre ++ (b ∷ []))) (length n) ≡ length n = span-all c (pre ++ (b ∷ [])) n z (p .1) in
+    rw (e, p .0, l, ← append-snoc pre b (n ++ z)) (ap suc r)
