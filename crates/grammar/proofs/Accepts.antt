@@ -26,7 +26,7 @@ abbrev pub Stops : List ℕ → Type 0
 Stops z = inSort Named (byteAt z 0) ≡ false
 
 -- What ends a name ends a number.
-stops-digit : (b : ℕ) → inSort Named b ≡ false → inSort Digit b ≡ false
+pub stops-digit : (b : ℕ) → inSort Named b ≡ false → inSort Digit b ≡ false
 unfolding inSort
 stops-digit b h = by (digit b) h
   where
@@ -59,16 +59,16 @@ module _ (p : ℕ) (pre : List ℕ) where
 
 -- ## All signs: behind each name or number of a form stands a sign that no name has, or the form's end
 
-abbrev alone : Part → ℕ → Bool
+abbrev pub alone : Part → ℕ → Bool
 alone itself q = not (inSort Named q)
 alone name q = false
 alone number q = false
 
-abbrev headOk : List ℕ → Bool
+abbrev pub headOk : List ℕ → Bool
 headOk [] = true
 headOk (q ∷ qs) = alone (partOf q) q
 
-abbrev okAfter : Part → List ℕ → Bool
+abbrev pub okAfter : Part → List ℕ → Bool
 okAfter itself ps = true
 okAfter name ps = headOk ps
 okAfter number ps = headOk ps
@@ -77,20 +77,20 @@ abbrev pub spaced : List ℕ → Bool
 spaced [] = true
 spaced (p ∷ ps) = okAfter (partOf p) ps && spaced ps
 
-T-not : (b : Bool) → T (not b) → b ≡ false
+pub T-not : (b : Bool) → T (not b) → b ≡ false
 T-not true h = absurd h
 T-not false h = refl
 
-head-stops : {ps u : List ℕ} (z : List ℕ) → Form ps u → T (headOk ps) → Stops z → Stops (u ++ z)
+pub head-stops : {ps u : List ℕ} (z : List ℕ) → Form ps u → T (headOk ps) → Stops z → Stops (u ++ z)
 head-stops z done ok st = st
 head-stops z (sign {p} e f) ok st = T-not (inSort Named p) (subst (λ (q : Part). T (alone q p)) e ok)
 head-stops z (named {p} n e al lo hi f) ok st = absurd (subst (λ (q : Part). T (alone q p)) e ok)
 head-stops z (numbered {p} n e al lo hi f) ok st = absurd (subst (λ (q : Part). T (alone q p)) e ok)
 
-head-ok : (q : Part) (p : ℕ) (ps : List ℕ) → partOf p ≡ q → T (spaced (p ∷ ps)) → T (okAfter q ps)
+pub head-ok : (q : Part) (p : ℕ) (ps : List ℕ) → partOf p ≡ q → T (spaced (p ∷ ps)) → T (okAfter q ps)
 head-ok q p ps e ok = subst (λ (r : Part). T (okAfter r ps)) e (left (okAfter (partOf p) ps) (spaced ps) ok)
 
-rest-ok : (p : ℕ) (ps : List ℕ) → T (spaced (p ∷ ps)) → T (spaced ps)
+pub rest-ok : (p : ℕ) (ps : List ℕ) → T (spaced (p ∷ ps)) → T (spaced ps)
 rest-ok p ps ok = right (okAfter (partOf p) ps) (spaced ps) ok
 
 -- Where the names of a form stand that starts at `at`.
@@ -171,7 +171,7 @@ pub data Tail : List ℕ → Type 0 where
   semi : (v : List ℕ) → Tail (code ";" ∷ v)
   stop : Tail []
 
-tail-stops : {z : List ℕ} → Tail z → Stops z
+pub tail-stops : {z : List ℕ} → Tail z → Stops z
 unfolding inSort digit letter
 tail-stops (semi v) = refl
 tail-stops stop = refl
@@ -181,7 +181,7 @@ unfolding inSort blank
 tail-no-blank (semi v) = refl
 tail-no-blank stop = refl
 
-blanks-stop : (c z : List ℕ) → All Blank c → Stops z → Stops (c ++ z)
+pub blanks-stop : (c z : List ℕ) → All Blank c → Stops z → Stops (c ++ z)
 blanks-stop [] z al st = st
 blanks-stop (b ∷ c) z al st = blank-not-named b (al .0)
 
@@ -204,7 +204,7 @@ ending-whole i x y q c {z} al lo t =
     let sp : span Blank (q ++ (c ++ z)) (length q) (length (q ++ (c ++ z))) ≡ length c = span-exact Blank q c z (length (q ++ (c ++ z))) al (omega arith) (tail-no-blank t) in
     rw (sp, ended-there q c t)
 
-all-spaced : (i : ℕ) → T (spaced (signsOf i))
+pub all-spaced : (i : ℕ) → T (spaced (signsOf i))
 unfolding partOf inSort digit letter
 all-spaced i = each-form spaced tt tt i
 

@@ -17,6 +17,7 @@ use Rattle.text.specs.declared.Fit.{Fit}
 use Rattle.text.specs.Bytes.{byteAt, blank, digit, letter, inSort, run, span}
 use Rattle.text.specs.Forms.{signsOf, Part, itself, name, number, partOf, takeRun, takePart, takeSign, xAt, yAt, ending, fit, going, follow, fitOf, further, bestTo, bestOf}
 use Rattle.grammar.proofs.Runs.{by-test, cond-has, never, span-zero}
+use Rattle.grammar.proofs.Accepts.{T-not}
 use Rattle.grammar.proofs.Follows.{Reach, take-reach, byte-there, left, right, positive, forms-positive, above, rest, ending-ahead, follow-ahead}
 
 -- ## The byte that a sign begins with
@@ -53,10 +54,6 @@ clashBy number number p q = false
 
 abbrev clash : ℕ → ℕ → Bool
 clash p q = clashBy (partOf p) (partOf q) p q
-
-T-not : (b : Bool) → T (not b) → b ≡ false
-T-not true h = absurd h
-T-not false h = refl
 
 clash-by : (m n : Part) (p q b : ℕ) (w : List ℕ) (at : ℕ) → T (clashBy m n p q) → begins p w at m b ≡ true → begins q w at n b ≡ false
 clash-by itself itself p q b w at c h = let e : b ≡ p = eqb-true b p h in rw e (T-not (eqb p q) c)

@@ -13,7 +13,7 @@ use Rattle.text.specs.Forms.{signsOf, Part, itself, name, number, partOf, fit, 
 use Rattle.text.specs.Grammar.{All, Form, done, sign, named, numbered}
 use Rattle.grammar.proofs.Runs.{by-test, cond-has, never, span-exact}
 use Rattle.grammar.proofs.Follows.{forms-positive, blanked}
-use Rattle.grammar.proofs.Accepts.{blank-not-named, Tail, xIn, yIn, whole}
+use Rattle.grammar.proofs.Accepts.{T-not, blank-not-named, Tail, xIn, yIn, whole}
 use Rattle.grammar.proofs.Apart.{allTo, upto, best-is}
 use Rattle.grammar.proofs.Parts.{Shown, shown, Begun, begun, begun-here}
 
@@ -34,10 +34,6 @@ startBy number p = true
 abbrev startOk : List ℕ → Bool
 startOk [] = false
 startOk (p ∷ ps) = startBy (partOf p) p
-
-T-not : (b : Bool) → T (not b) → b ≡ false
-T-not true h = absurd h
-T-not false h = refl
 
 head-sort : (n u z : List ℕ) → ((b : ℕ) (m : List ℕ) → n ≡ b ∷ m → inSort Blank b ≡ false) → 1 ≤ length n → inSort Blank (byteAt ((n ++ u) ++ z) 0) ≡ false
 head-sort [] u z h lo = absurd (omega arith)

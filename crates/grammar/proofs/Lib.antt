@@ -7,3 +7,4 @@ pub mod Parts
 pub mod Instructions
 pub mod Stuck
 pub mod Place
+pub mod Spelt

@@ -5,6 +5,7 @@
 --     span-exact     a run ends where the next byte is not of its sort
 --     span-zero     there is none where the first byte is not of its sort
 --     run-all     its bytes are of its sort
+--     run-exact     the bytes that stand there are the run
 use mathlib.Core.Path.{_≡_, refl, sym, ap, _∙_}
 use Prim.Native.Nat.{_≤_, _<_}
 use native.Mathlib.Nat.{not-suc-le-zero, le-of-suc-le-suc}
@@ -86,3 +87,16 @@ span-all c pre (b ∷ n) z p =
     let l : suc (length pre) ≡ length (pre ++ (b ∷ [])) = sym (length-append pre (b ∷ []) ∙ omega arith) in
     let r : span c ((pre ++ (b ∷ [])) ++ (n ++ z)) (length (pre ++ (b ∷ []))) (length n) ≡ length n = span-all c (pre ++ (b ∷ [])) n z (p .1) in
     rw (e, p .0, l, ← append-snoc pre b (n ++ z)) (ap suc r)
+
+pub run-exact : (c : Sort) (pre n z : List ℕ) (m : ℕ) → All c n → length n ≤ m → inSort c (byteAt z 0) ≡ false → run c (pre ++ (n ++ z)) (length pre) m ≡ n
+unfolding run
+run-exact c pre [] z zero p lt h = refl
+run-exact c pre (b ∷ n) z zero p lt h = absurd (not-suc-le-zero lt)
+run-exact c pre [] z (suc m) p lt h =
+    let e : byteAt (pre ++ z) (length pre) ≡ byteAt z 0 = let d : length pre ≡ length pre + 0 = omega arith in ap (λ i. byteAt (pre ++ z) i) d ∙ getD-append-add pre z 0 0 in
+    rw (e, h)
+run-exact c pre (b ∷ n) z (suc m) p lt h =
+    let e : byteAt (pre ++ (b ∷ (n ++ z))) (length pre) ≡ b = getD-append-seam pre b (n ++ z) 0 in
+    let l : suc (length pre) ≡ length (pre ++ (b ∷ [])) = sym (length-append pre (b ∷ []) ∙ omega arith) in
+    let r : run c ((pre ++ (b ∷ [])) ++ (n ++ z)) (length (pre ++ (b ∷ []))) m ≡ n = run-exact c (pre ++ (b ∷ [])) n z m (p .1) (le-of-suc-le-suc lt) h in
+    rw (e, p .0, l, ← append-snoc pre b (n ++ z)) (ap (λ (y : List ℕ). b ∷ y) r)
