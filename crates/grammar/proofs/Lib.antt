@@ -8,3 +8,4 @@ pub mod Instructions
 pub mod Stuck
 pub mod Place
 pub mod Spelt
+pub mod Known

@@ -1,0 +1,176 @@
+-- A text is read exactly if it is in the grammar with every name known and at most 999 labels: by one instruction after the other.
+use mathlib.Core.Path.{_≡_, refl, sym, ap, _∙_, subst, fun-ext}
+use Prim.Native.Nat.{_≤_, _<_}
+use Prim.Native.Char.{code}
+use native.Mathlib.Numerals.{sub-one}
+use native.Mathlib.Omega.{arith}
+use mathlib.Core.List.{append-assoc, append-nil}
+use lib.ListN.{length-append, take-append-drop}
+use lib.Seq.{length-take-le}
+use borrow.Author.Tests.{eq-eqb, ne-eqb, eqb-true, eqb-false, lt-ltb, le-ltb, ltb-true, ltb-false}
+use Rattle.rules.specs.Words.{ℕ, zero, suc, _+_, _-_, Bool, true, false, cond, List, [], _∷_, _++_, length, take, drop, eqb, ltb}
+use Rattle.rules.specs.Record.{Rec}
+use Rattle.text.specs.declared.Sort.the-variants.{Blank}
+use Rattle.text.specs.declared.Fit.{Fit}
+use Rattle.text.specs.declared.TextRefusal.the-variants.{Text, Name, Earlier}
+use Rattle.text.specs.Bytes.{run, span}
+use Rattle.text.specs.Forms.{a, k, s, signsOf, letterOf, fit, bestOf}
+use Rattle.text.specs.Names.{nameAt, numberAt, placeOf, actionOf, labelOf, withLabel}
+use Rattle.text.specs.Reading.{Next, made, bad, formRecord, settled, known, withAction, withNumber, withLabelAt, withSecond, named, nextOf, Reading, reads, refused, onwards, readFrom, readText}
+use Rattle.text.specs.Grammar as grammar
+use Rattle.text.specs.Grammar.{All, Form, Some, last, more, blanks, some}
+use Rattle.grammar.specs.Promises.{actionsIn, labelsIn, actionsOf, labelsOf, AllListed, withLabels, Known, ReadsTexts}
+use Rattle.grammar.proofs.Runs.{by-test, never, span-all, run-all}
+use Rattle.grammar.proofs.Follows.{blanked}
+use Rattle.grammar.proofs.Accepts.{Stops, Tail, semi, stop, tail-stops, blanks-stop, all-spaced, xIn, yIn}
+use Rattle.grammar.proofs.Parts.{run-stands, Shown}
+use Rattle.grammar.proofs.Instructions.{passed, found, Seen, seen}
+use Rattle.grammar.proofs.Stuck.{Fair, fair, blanked-in, ahead}
+use Rattle.grammar.proofs.Spelt.{all-shaped, Spelt, plain, action, figure, label, labels, spelt}
+
+-- ## A label has a number exactly if there are then at most 999
+
+module _ (us : List (List ℕ)) (u : List ℕ) where
+  grows : length us ≤ length (withLabel us u)
+  unfolding withLabel
+  grows = by-test (eqb (placeOf u us) 0) (λ t. rw t (omega (arith, length-append us (u ∷ [])))) (λ t. rw t (omega arith))
+
+  numbered : length (withLabel us u) ≤ 999 → labelOf us u ≡ 0 → ⊥
+  unfolding withLabel labelOf
+  numbered h e =
+      by-test (eqb (placeOf u us) 0)
+      (λ t. let n : length (us ++ (u ∷ [])) ≤ 999 = rw t at h in
+      let l : length us < 999 = omega (arith, length-append us (u ∷ [])) in
+      let z : suc (length us) ≡ 0 = rw (t, lt-ltb (length us) 999 l) at e in omega arith)
+      (λ t. let z : placeOf u us ≡ 0 = rw t at e in eqb-false (placeOf u us) 0 t z)
+
+  few : length us ≤ 999 → (labelOf us u ≡ 0 → ⊥) → length (withLabel us u) ≤ 999
+  unfolding withLabel labelOf
+  few l h =
+      by-test (eqb (placeOf u us) 0)
+      (λ t. by-test (ltb (length us) 999)
+      (λ q. let n : length us < 999 = ltb-true (length us) 999 q in rw t (omega (arith, length-append us (u ∷ []))))
+      (λ q. absurd (h (rw (t, q)))))
+      (λ t. rw t l)
+
+more-grow : (us ns : List (List ℕ)) → length us ≤ length (withLabels us ns)
+more-grow us [] = omega arith
+more-grow us (n ∷ ns) = omega (arith, grows us n, more-grow (withLabel us n) ns)
+
+-- ## One instruction
+
+-- A name that is known is passed on, and only such a one.
+known-on : (p v : ℕ) (on : ℕ → Next) → (v ≡ 0 → ⊥) → known p v on ≡ on v
+known-on p v on h = rw (ne-eqb v 0 h)
+
+known-was : (p v : ℕ) (on : ℕ → Next) {r : Rec} {us : List (List ℕ)} {e : ℕ} → known p v on ≡ made r us e → (v ≡ 0 → ⊥) × (on v ≡ made r us e)
+known-was p v on {r} {us} {e} h =
+    by-test (eqb v 0)
+    (λ t. absurd (let z : bad (Name p) ≡ made r us e = rw t at h in let y : _≡_ {A = ℕ} 0 1 = cc in omega arith))
+    (λ t. (eqb-false v 0 t, rw t at h))
+
+-- The name at suc q.
+action-at : (w : List ℕ) (es : List (List ℕ)) (q : ℕ) (n : List ℕ) (on : ℕ → Next) → nameAt w q ≡ n → withAction w es (suc q) on ≡ known (suc q) (actionOf es n) on
+unfolding withAction
+action-at w es q n on e = rw (ne-eqb (suc q) 0 (λ z. omega arith), sub-one, e)
+
+label-at : (w : List ℕ) (us : List (List ℕ)) (q : ℕ) (n : List ℕ) (on : ℕ → List (List ℕ) → Next) → nameAt w q ≡ n
+    → withLabelAt w us (suc q) on ≡ known (suc q) (labelOf us n) (λ v. on v (withLabel us n))
+unfolding withLabelAt
+label-at w us q n on e = rw (ne-eqb (suc q) 0 (λ z. omega arith), sub-one, e)
+
+-- What a reading makes of a whole form, by its letter.
+module _ (w : List ℕ) (es us : List (List ℕ)) (i far : ℕ) where
+  abbrev found-form : ℕ → ℕ → Fit
+  found-form x y = fit i true far x y
+
+  abbrev result : ℕ → ℕ → List (List ℕ) → Next
+  result x y vs = made (formRecord i x y) vs far
+
+  abbrev on-action : ℕ → Next
+  on-action v = result v 0 us
+
+  abbrev on-label : List ℕ → ℕ → Next
+  on-label n v = result v 0 (withLabel us n)
+
+  abbrev on-second : List ℕ → List ℕ → ℕ → ℕ → Next
+  on-second n m v y = result v y (withLabel (withLabel us n) m)
+
+  abbrev on-first : ℕ → List ℕ → List ℕ → ℕ → Next
+  on-first r n m v = known (suc r) (labelOf (withLabel us n) m) (on-second n m v)
+
+  settles : (x y x′ y′ : ℕ) (vs : List (List ℕ)) → settled (found-form x y) x′ y′ vs ≡ result x′ y′ vs
+  unfolding settled
+  settles x y x′ y′ vs = refl
+
+  by-none : (x y : ℕ) → named 0 w es us (found-form x y) ≡ result 0 0 us
+  unfolding named
+  by-none x y = settles x y 0 0 us
+
+  by-action : (q y : ℕ) (n : List ℕ) → nameAt w q ≡ n → named a w es us (found-form (suc q) y) ≡ known (suc q) (actionOf es n) on-action
+  unfolding named settled
+  by-action q y n e = action-at w es q n (λ v. result v 0 us) e
+
+  by-figure : (q y : ℕ) → named k w es us (found-form (suc q) y) ≡ result (numberAt w q) 0 us
+  unfolding named withNumber settled
+  by-figure q y = rw (ne-eqb (suc q) 0 (λ z. omega arith), sub-one)
+
+  by-label : (q : ℕ) (n : List ℕ) → nameAt w q ≡ n → named s w es us (found-form (suc q) 0) ≡ known (suc q) (labelOf us n) (on-label n)
+  unfolding named withSecond withLabelAt settled
+  by-label q n e = label-at w us q n (λ v vs. result v 0 vs) e
+
+  by-labels : (q r : ℕ) (n m : List ℕ) → nameAt w q ≡ n → nameAt w r ≡ m
+      → named s w es us (found-form (suc q) (suc r))
+      ≡ known (suc q) (labelOf us n) (on-first r n m)
+  unfolding named withSecond settled
+  by-labels q r n m e f =
+      label-at w us q n (λ v vs. withLabelAt w vs (suc r) (λ y vs′. result v y vs′)) e
+      ∙ ap (λ (on : ℕ → Next). known (suc q) (labelOf us n) on) (fun-ext (λ v. label-at w (withLabel us n) r m (λ y vs′. result v y vs′) f))
+
+  -- Known names, and few enough labels: a record is made, with the labels that are then there.
+  makes : {letter x y : ℕ} {ac ls : List (List ℕ)} → Spelt w letter ac ls x y → AllListed es ac → length (withLabels us ls) ≤ 999
+      → (r : Rec) × (named letter w es us (found-form x y) ≡ made r (withLabels us ls) far)
+  makes {x = x} {y = y} (plain l e f) k h = (formRecord i 0 0, rw (l, f) (by-none x y))
+  makes {y = y} (action n q l e f g nm) k h =
+      let kn : actionOf es n ≡ 0 → ⊥ = (rw e at k) .0 in
+      (formRecord i (actionOf es n) 0, rw (l, g, f) (by-action q y n nm ∙ known-on (suc q) (actionOf es n) on-action kn))
+  makes {y = y} (figure n q l e f g nm) k h = (formRecord i (numberAt w q) 0, rw (l, g, f) (by-figure q y))
+  makes (label n q l e f g nm z) k h =
+      let h′ : length (withLabel us n) ≤ 999 = rw f at h in
+      (formRecord i (labelOf us n) 0, rw (l, g, f, z) (by-label q n nm ∙ known-on (suc q) (labelOf us n) (on-label n) (numbered us n h′)))
+  makes (labels n m q r l e f g nm z nm′) k h =
+      let h′ : length (withLabel (withLabel us n) m) ≤ 999 = rw f at h in
+      let h″ : length (withLabel us n) ≤ 999 = omega (arith, grows (withLabel us n) m) in (
+        formRecord i (labelOf us n) (labelOf (withLabel us n) m),
+        rw (l, g, f, z) (by-labels q r n m nm nm′ ∙ known-on (suc q) (labelOf us n) (on-first r n m) (numbered us n h″) ∙ known-on (suc r) (labelOf (withLabel us n) m) (on-second n m (labelOf us n)) (numbered (withLabel us n) m h′)),
+      )
+
+  -- And only then.
+  record Said (ac ls vs : List (List ℕ)) : Type 0 where
+    listed : AllListed es ac
+    spoken : vs ≡ withLabels us ls
+    fewer : length vs ≤ 999
+
+  was-made : {letter x y e : ℕ} {ac ls vs : List (List ℕ)} {r : Rec} → Spelt w letter ac ls x y → length us ≤ 999
+      → named letter w es us (found-form x y) ≡ made r vs e → Said ac ls vs
+  was-made {x = x} {y = y} {e = e} {vs = vs} {r = r} (plain l ae f) h m =
+      let z : result 0 0 us ≡ made r vs e = sym (by-none x y) ∙ (rw l at m) in
+      let v : us ≡ vs = cc in
+      rw (ae, f, ← v) (record { listed = tt; spoken = refl; fewer = h })
+  was-made {y = y} {e = e} {vs = vs} {r = r} (action n q l ae f g nm) h m =
+      let z = known-was (suc q) (actionOf es n) on-action (sym (by-action q y n nm) ∙ (rw (l, g) at m)) in
+      let v : us ≡ vs = let t = z .1 in cc in
+      rw (ae, f, ← v) (record { listed = (z .0, tt); spoken = refl; fewer = h })
+  was-made {y = y} {e = e} {vs = vs} {r = r} (figure n q l ae f g nm) h m =
+      let z : result (numberAt w q) 0 us ≡ made r vs e = sym (by-figure q y) ∙ (rw (l, g) at m) in
+      let v : us ≡ vs = cc in
+      rw (ae, f, ← v) (record { listed = tt; spoken = refl; fewer = h })
+  was-made {e = e} {vs = vs} {r = r} (label n q l ae f g nm yz) h m =
+      let z = known-was (suc q) (labelOf us n) (on-label n) (sym (by-label q n nm) ∙ (rw (l, g, yz) at m)) in
+      let v : withLabel us n ≡ vs = let t = z .1 in cc in
+      rw (ae, f, ← v) (record { listed = tt; spoken = refl; fewer = few us n h (z .0) })
+  was-made {e = e} {vs = vs} {r = r} (labels n o q j l ae f g nm yz nm′) h m =
+      let z = known-was (suc q) (labelOf us n) (on-first j n o) (sym (by-labels q j n o nm nm′) ∙ (rw (l, g, yz) at m)) in
+      let z′ = known-was (suc j) (labelOf (withLabel us n) o) (on-second n o (labelOf us n)) (z .1) in
+      let v : withLabel (withLabel us n) o ≡ vs = let t = z′ .1 in cc in
+      rw (ae, f, ← v) (record { listed = tt; spoken = refl; fewer = few (withLabel us n) o (few us n h (z .0)) (z′ .0) })
