@@ -26,6 +26,7 @@ use Rattle.grammar.proofs.Accepts.{Stops, Tail, semi, stop, tail-stops,
 use Rattle.grammar.proofs.Parts.{run-stands, Shown}
 use Rattle.grammar.proofs.Instructions.{passed, found, Seen, seen}
 use Rattle.grammar.proofs.Stuck.{Fair, fair, blanked-in, ahead}
+use Rattle.grammar.proofs.Place.{upTo, behind, upTo-length, all-blank}
 use Rattle.grammar.proofs.Spelt.{all-shaped, Spelt, plain, action, figure, label, labels, spelt}
 
 -- ## A label has a number exactly if there are then at most 999
@@ -174,3 +175,108 @@ module _ (w : List ℕ) (es us : List (List ℕ)) (i far : ℕ) where
       let z′ = known-was (suc j) (labelOf (withLabel us n) o) (on-second n o (labelOf us n)) (z .1) in
       let v : withLabel (withLabel us n) o ≡ vs = let t = z′ .1 in cc in
       rw (ae, f, ← v) (record { listed = tt; spoken = refl; fewer = few (withLabel us n) o (few us n h (z .0)) (z′ .0) })
+
+-- ## An instruction in its text
+
+listed-append : (es ns ms : List (List ℕ)) → AllListed es ns → AllListed es ms → AllListed es (ns ++ ms)
+listed-append es [] ms h g = g
+listed-append es (n ∷ ns) ms h g = (h .0, listed-append es ns ms (h .1) g)
+
+listed-left : (es ns ms : List (List ℕ)) → AllListed es (ns ++ ms) → AllListed es ns
+listed-left es [] ms h = tt
+listed-left es (n ∷ ns) ms h = (h .0, listed-left es ns ms (h .1))
+
+listed-right : (es ns ms : List (List ℕ)) → AllListed es (ns ++ ms) → AllListed es ms
+listed-right es [] ms h = h
+listed-right es (n ∷ ns) ms h = listed-right es ns ms (h .1)
+
+labels-append : (us ns ms : List (List ℕ)) → withLabels us (ns ++ ms) ≡ withLabels (withLabels us ns) ms
+labels-append us [] ms = refl
+labels-append us (n ∷ ns) ms = labels-append (withLabel us n) ns ms
+
+module _ (es us : List (List ℕ)) (i : ℕ) (pre b u c z : List ℕ) (hi : i < 17) (bs : All Blank b) (f : Form (signsOf (suc i)) u) (cs : All Blank c) (t : Tail z) where
+  abbrev whole : List ℕ
+  whole = pre ++ (b ++ (u ++ (c ++ z)))
+
+  abbrev start : ℕ
+  start = length pre + length b
+
+  abbrev end : ℕ
+  end = start + length u + length c + 1
+
+  spells : Spelt whole (letterOf (suc i)) (actionsIn f) (labelsIn f) (xIn f start 0) (yIn f start 0)
+  spells =
+      let l : length (pre ++ b) ≡ start = length-append pre b in
+      let r = spelt (pre ++ b) (c ++ z) f (all-shaped i hi) (all-spaced (suc i)) (blanks-stop c z cs (tail-stops t)) in
+      rw (append-assoc pre b (u ++ (c ++ z)), l) at r
+
+  next-is : nextOf whole es us (length pre) ≡ named (letterOf (suc i)) whole es us (fit (suc i) true end (xIn f start 0) (yIn f start 0))
+  unfolding nextOf
+  next-is =
+      ap (λ (j : ℕ). named (letterOf (bestOf whole j .form)) whole es us (bestOf whole j)) (passed i pre b u c z hi bs f cs t)
+      ∙ ap (λ (g : Fit). named (letterOf (g .form)) whole es us g) (found i pre b u c z hi bs f cs t)
+
+  next-makes : AllListed es (actionsIn f) → length (withLabels us (labelsIn f)) ≤ 999 → (r : Rec) × (nextOf whole es us (length pre) ≡ made r (withLabels us (labelsIn f)) end)
+  next-makes k h = let m = makes whole es us (suc i) end spells k h in (m .0, next-is ∙ m .1)
+
+  next-was : {r : Rec} {vs : List (List ℕ)} {e : ℕ} → length us ≤ 999 → nextOf whole es us (length pre) ≡ made r vs e → Said whole es us (suc i) end (actionsIn f) (labelsIn f) vs
+  next-was h m = was-made whole es us (suc i) end spells h (sym next-is ∙ m)
+
+  whole-length : length whole ≡ length pre + (length b + (length u + (length c + length z)))
+  whole-length =
+      length-append pre (b ++ (u ++ (c ++ z))) ∙ ap (λ (m : ℕ). length pre + m)
+      (length-append b (u ++ (c ++ z)) ∙ ap (λ (m : ℕ). length b + m) (length-append u (c ++ z) ∙ ap (λ (m : ℕ). length u + m) (length-append c z)))
+
+-- ## A text with known names is read
+
+abbrev Reads : ℕ → List ℕ → List (List ℕ) → ℕ → List (List ℕ) → List Rec → Type 0
+Reads m w es at us rs = (rs′ : List Rec) × (readFrom m w es at us rs ≡ reads rs′)
+
+module _ (m : ℕ) (w : List ℕ) (es : List (List ℕ)) (at : ℕ) (us : List (List ℕ)) (rs : List Rec) where
+  -- The last instruction, and one with another behind it.
+  ends-here : {r : Rec} {vs : List (List ℕ)} {e : ℕ} → nextOf w es us at ≡ made r vs e → length w < e → Reads (suc m) w es at us rs
+  unfolding readFrom
+  ends-here {r} {vs} {e} n h = (rs ++ (r ∷ []), rw (n, lt-ltb (length w) e h))
+
+  goes-on : {r : Rec} {vs : List (List ℕ)} {e : ℕ} → nextOf w es us at ≡ made r vs e → e ≤ length w → Reads m w es e vs (rs ++ (r ∷ [])) → Reads (suc m) w es at us rs
+  unfolding readFrom
+  goes-on {r} {vs} {e} n h g = (g .0, rw (n, le-ltb (length w) e h) (g .1))
+
+last-reads : (m : ℕ) (es us : List (List ℕ)) (rs : List Rec) (i : ℕ) (pre b u c : List ℕ) (hi : i < 17) (bs : All Blank b) (f : Form (signsOf (suc i)) u) (cs : All Blank c)
+    → AllListed es (actionsIn f) → length (withLabels us (labelsIn f)) ≤ 999 → Reads (suc m) (pre ++ (b ++ (u ++ c))) es (length pre) us rs
+last-reads m es us rs i pre b u c hi bs f cs k h =
+    let n = next-makes es us i pre b u c [] hi bs f cs stop k h in
+    let l = whole-length es us i pre b u c [] hi bs f cs stop in
+    subst (λ (x : List ℕ). Reads (suc m) (pre ++ (b ++ (u ++ x))) es (length pre) us rs) (append-nil c)
+    (ends-here m (pre ++ (b ++ (u ++ (c ++ [])))) es (length pre) us rs (n .1) (omega arith))
+
+more-reads : (m : ℕ) (es us : List (List ℕ)) (rs : List Rec) (i : ℕ) (pre b u c v : List ℕ) (hi : i < 17) (bs : All Blank b) (f : Form (signsOf (suc i)) u) (cs : All Blank c)
+    → AllListed es (actionsIn f) → length (withLabels us (labelsIn f)) ≤ 999
+    → ((rs′ : List Rec) → Reads m ((pre ++ upTo b u c) ++ v) es (length (pre ++ upTo b u c)) (withLabels us (labelsIn f)) rs′)
+    → Reads (suc m) (pre ++ (b ++ (u ++ (c ++ (code ";" ∷ v))))) es (length pre) us rs
+more-reads m es us rs i pre b u c v hi bs f cs k h go =
+    let n = next-makes es us i pre b u c (code ";" ∷ v) hi bs f cs (semi v) k h in
+    let l = whole-length es us i pre b u c (code ";" ∷ v) hi bs f cs (semi v) in
+    let g = go (rs ++ (n .0 ∷ [])) in
+    goes-on m (pre ++ (b ++ (u ++ (c ++ (code ";" ∷ v))))) es (length pre) us rs (n .1) (omega arith)
+    (rw (behind pre b u c v, upTo-length pre b u c) at g)
+
+some-reads : (m : ℕ) (es us : List (List ℕ)) (rs : List Rec) {v : List ℕ} (pre : List ℕ) (x : Some v) → length (pre ++ v) < length pre + m
+    → AllListed es (actionsOf x) → length (withLabels us (labelsOf x)) ≤ 999 → Reads m (pre ++ v) es (length pre) us rs
+some-reads zero es us rs {v} pre x l k h = absurd (omega (arith, length-append pre v))
+some-reads (suc m) es us rs pre (last i b u c hi bs f cs) l k h = last-reads m es us rs i pre b u c hi bs f cs k h
+some-reads (suc m) es us rs pre (more i b u c {v} hi bs f cs x) l k h =
+    let h′ : length (withLabels (withLabels us (labelsIn f)) (labelsOf x)) ≤ 999 = rw (labels-append us (labelsIn f) (labelsOf x)) at h in
+    more-reads m es us rs i pre b u c v hi bs f cs (listed-left es (actionsIn f) (actionsOf x) k) (omega (arith, more-grow (withLabels us (labelsIn f)) (labelsOf x)))
+    (λ rs′. some-reads m es (withLabels us (labelsIn f)) rs′ (pre ++ upTo b u c) x
+    (omega (arith, ap length (behind pre b u c v), upTo-length pre b u c)) (listed-right es (actionsIn f) (actionsOf x) k) h′)
+
+-- ## What is read is a text with known names
+
+abbrev Good : List (List ℕ) → List (List ℕ) → List ℕ → Type 0
+Good es us v = (x : Some v) × AllListed es (actionsOf x) × (length (withLabels us (labelsOf x)) ≤ 999)
+
+more-good : (es us : List (List ℕ)) (i : ℕ) (b u c v : List ℕ) (hi : i < 17) (bs : All Blank b) (f : Form (signsOf (suc i)) u) (cs : All Blank c)
+    → AllListed es (actionsIn f) → Good es (withLabels us (labelsIn f)) v → Good es us (b ++ (u ++ (c ++ (code ";" ∷ v))))
+more-good es us i b u c v hi bs f cs k g =
+    (more i b u c hi bs f cs (g .0), listed-append es (actionsIn f) (actionsOf (g .0)) k (g .1), rw (labels-append us (labelsIn f) (labelsOf (g .0))) (g .2))

@@ -81,16 +81,16 @@ last-not i pre b u c p hi bs f cs q =
     omega (arith, g .0)
 
 -- What stands before the next instruction.
-abbrev upTo : List ℕ → List ℕ → List ℕ → List ℕ
+abbrev pub upTo : List ℕ → List ℕ → List ℕ → List ℕ
 upTo b u c = b ++ (u ++ (c ++ (code ";" ∷ [])))
 
-behind : (pre b u c v : List ℕ) → (pre ++ upTo b u c) ++ v ≡ pre ++ (b ++ (u ++ (c ++ (code ";" ∷ v))))
+pub behind : (pre b u c v : List ℕ) → (pre ++ upTo b u c) ++ v ≡ pre ++ (b ++ (u ++ (c ++ (code ";" ∷ v))))
 behind pre b u c v =
     append-assoc pre (upTo b u c) v ∙ ap (λ (l : List ℕ). pre ++ l)
     (append-assoc b (u ++ (c ++ (code ";" ∷ []))) v ∙ ap (λ (l : List ℕ). b ++ l)
     (append-assoc u (c ++ (code ";" ∷ [])) v ∙ ap (λ (l : List ℕ). u ++ l) (append-assoc c (code ";" ∷ []) v)))
 
-upTo-length : (pre b u c : List ℕ) → length (pre ++ upTo b u c) ≡ length pre + length b + length u + length c + 1
+pub upTo-length : (pre b u c : List ℕ) → length (pre ++ upTo b u c) ≡ length pre + length b + length u + length c + 1
 upTo-length pre b u c =
     let n₁ = length-append pre (upTo b u c) in
     let n₂ = length-append b (u ++ (c ++ (code ";" ∷ []))) in
@@ -109,7 +109,7 @@ some-not pre p (last i b u c hi bs f cs) q = last-not i pre b u c p hi bs f cs q
 some-not pre p (more i b u c {v} hi bs f cs m) q = some-not (pre ++ upTo b u c) p m (more-next i pre b u c v p hi bs f cs q)
 
 -- A text of blanks alone is stuck at its end only.
-all-blank : (b : List ℕ) → All Blank b → span Blank b 0 (length b) ≡ length b
+pub all-blank : (b : List ℕ) → All Blank b → span Blank b 0 (length b) ≡ length b
 all-blank b bs = subst (λ (l : List ℕ). span Blank l 0 (length b) ≡ length b) (append-nil b) (span-all Blank [] b [] bs)
 
 blank-end : (b : List ℕ) (p : ℕ) → All Blank b → Stuck b 0 p → length b < p
