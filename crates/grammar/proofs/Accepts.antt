@@ -1,7 +1,7 @@
 -- What the grammar has, its form follows to the end: a form's bytes, with nothing of a name behind them, are followed to the form's
 -- ending, and with blanks and `;` or the end of the text behind them the form is whole.
-use mathlib.Core.Path.{_≡_, refl, sym, ap, _∙_, subst}
-use Prim.Native.Nat.{_≤_, _<_}
+use mathlib.Core.Path.{_≡_, refl, ap, _∙_, subst}
+use Prim.Native.Nat.{_≤_}
 use Prim.Native.Char.{code}
 use native.Mathlib.Omega.{arith}
 use mathlib.Core.List.{append-assoc}
@@ -9,11 +9,11 @@ use lib.Dec.{T}
 use lib.ListN.{length-append}
 use lib.Seq.{getD-append-seam, getD-append-add, append-snoc}
 use borrow.Author.Tests.{eq-eqb, ne-eqb, le-leb, eqb-true}
-use Rattle.rules.specs.Words.{ℕ, zero, suc, _+_, Bool, true, false, not, cond, _&&_, _||_, List, [], _∷_, _++_, length, eqb}
+use Rattle.rules.specs.Words.{ℕ, suc, _+_, Bool, true, false, not, _&&_, _||_, List, [], _∷_, _++_, length, eqb}
 use Rattle.text.specs.declared.Sort.{Sort}
 use Rattle.text.specs.declared.Sort.the-variants.{Blank, Digit, Named}
 use Rattle.text.specs.declared.Took.the-variants.{On}
-use Rattle.text.specs.Bytes.{byteAt, digit, letter, blank, inSort, run, span}
+use Rattle.text.specs.Bytes.{byteAt, digit, letter, blank, inSort, span}
 use Rattle.text.specs.Forms.{signsOf, Part, itself, name, number, partOf, takeRun, takePart, takeSign, xAt, yAt, ending, fit, follow, fitOf}
 use Rattle.text.specs.Grammar.{All, Form, done, sign, named, numbered}
 use Rattle.grammar.proofs.Runs.{by-test, never, span-exact}

@@ -1,6 +1,6 @@
 -- Following a form: a sign that is there takes a byte and stays in the text, one that is not stops in the text. So a form that is
 -- followed from a place goes on from there.
-use mathlib.Core.Path.{_≡_, refl, sym, ap, _∙_}
+use mathlib.Core.Path.{_≡_, refl, sym}
 use Prim.Native.Nat.{_≤_, _<_}
 use Prim.Native.Char.{code}
 use native.Mathlib.Omega.{arith}

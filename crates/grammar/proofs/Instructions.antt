@@ -5,16 +5,16 @@ use native.Mathlib.Omega.{arith}
 use mathlib.Core.List.{append-assoc}
 use lib.Dec.{T}
 use lib.ListN.{length-append}
-use Rattle.rules.specs.Words.{ℕ, zero, suc, _+_, Bool, true, false, not, cond, _||_, List, [], _∷_, _++_, length, ltb}
+use Rattle.rules.specs.Words.{ℕ, zero, suc, _+_, Bool, true, false, not, List, [], _∷_, _++_, length, ltb}
 use Rattle.text.specs.declared.Sort.the-variants.{Blank, Digit, Named}
 use Rattle.text.specs.declared.Fit.{Fit}
-use Rattle.text.specs.Bytes.{byteAt, digit, letter, blank, inSort, span}
+use Rattle.text.specs.Bytes.{byteAt, blank, inSort}
 use Rattle.text.specs.Forms.{signsOf, Part, itself, name, number, partOf, fit, fitOf, further, bestTo, bestOf}
 use Rattle.text.specs.Grammar.{All, Form, done, sign, named, numbered}
 use Rattle.grammar.proofs.Runs.{by-test, cond-has, never, span-exact}
 use Rattle.grammar.proofs.Follows.{forms-positive, blanked}
 use Rattle.grammar.proofs.Accepts.{T-not, blank-not-named, Tail, xIn, yIn, whole}
-use Rattle.grammar.proofs.Apart.{allTo, upto, best-is}
+use Rattle.grammar.proofs.Apart.{upto, best-is}
 use Rattle.grammar.proofs.Parts.{Shown, shown, Begun, begun, begun-here}
 
 -- ## The first byte of an instruction is no blank
@@ -64,7 +64,7 @@ module _ (i : ℕ) (pre b u c z : List ℕ) (hi : i < 17) (bs : All Blank b) (f 
   abbrev start : ℕ
   start = length pre + length b
 
-  text-length : length text ≡ length pre + (length b + (length u + (length c + length z)))
+  pub text-length : length text ≡ length pre + (length b + (length u + (length c + length z)))
   text-length =
       length-append pre (b ++ (u ++ (c ++ z))) ∙ ap (λ (m : ℕ). length pre + m)
       (length-append b (u ++ (c ++ z)) ∙ ap (λ (m : ℕ). length b + m) (length-append u (c ++ z) ∙ ap (λ (m : ℕ). length u + m) (length-append c z)))

@@ -1,13 +1,12 @@
 -- A reading depends on no byte behind the one where it stops: where the best form stops before n, another text with the same first n
 -- bytes has the same best form. So the byte where the best form is stuck is one that no text has there, however it goes on.
-use mathlib.Core.Path.{_≡_, refl, sym, ap, _∙_}
+use mathlib.Core.Path.{_≡_, refl, ap, _∙_}
 use Prim.Native.Nat.{_≤_, _<_}
-use Prim.Native.Char.{code}
 use native.Mathlib.Nat.{not-suc-le-zero, le-of-suc-le-suc}
 use native.Mathlib.Omega.{arith}
 use lib.Dec.{T}
-use borrow.Author.Tests.{eqb-true, eq-eqb, ne-eqb, leb-false, ltb-true, ltb-false}
-use Rattle.rules.specs.Words.{ℕ, zero, suc, _+_, Bool, true, false, cond, _||_, List, [], _∷_, length, eqb, leb, ltb}
+use borrow.Author.Tests.{eqb-true, ne-eqb, leb-false, ltb-true, ltb-false}
+use Rattle.rules.specs.Words.{ℕ, zero, suc, _+_, false, List, [], _∷_, length, eqb, leb, ltb}
 use Rattle.text.specs.declared.Sort.{Sort}
 use Rattle.text.specs.declared.Sort.the-variants.{Blank, Digit, Named}
 use Rattle.text.specs.declared.Took.{Took}
@@ -15,7 +14,7 @@ use Rattle.text.specs.declared.Took.the-variants.{On, Off}
 use Rattle.text.specs.Bytes.{byteAt, inSort, run, span}
 use Rattle.text.specs.Forms.{signsOf, Part, itself, name, number, partOf, takeRun, takePart, takeSign, xAt, yAt, ending, fit, going, follow, fitOf, further, bestTo}
 use Rattle.grammar.proofs.Runs.{by-test, span-within, span-most}
-use Rattle.grammar.proofs.Follows.{Reach, take-reach, positive, forms-positive, above, rest, blanked, ended, ending-has, follow-from}
+use Rattle.grammar.proofs.Follows.{Reach, take-reach, positive, forms-positive, above, rest, blanked, ended, follow-from}
 
 -- The first n bytes are the same.
 abbrev pub Agree : List ℕ → List ℕ → ℕ → Type 0

@@ -9,16 +9,16 @@ use lib.Dec.{T}
 use lib.ListN.{length-append, drop-of-length-le}
 use lib.Seq.{drop-cons}
 use borrow.Author.Tests.{eqb-true, eqb-false, leb-true, leb-false}
-use Rattle.rules.specs.Words.{ℕ, zero, suc, _+_, Bool, true, false, cond, _||_, List, [], _∷_, _++_, length, drop, eqb, leb}
+use Rattle.rules.specs.Words.{ℕ, zero, suc, _+_, Bool, true, false, _||_, List, [], _∷_, _++_, length, drop, eqb, leb}
 use Rattle.text.specs.declared.Sort.{Sort}
 use Rattle.text.specs.declared.Sort.the-variants.{Blank, Digit, Named}
 use Rattle.text.specs.declared.Took.{Took}
 use Rattle.text.specs.declared.Took.the-variants.{On, Off}
 use Rattle.text.specs.declared.Fit.{Fit}
-use Rattle.text.specs.Bytes.{byteAt, blank, digit, letter, inSort, run, span}
+use Rattle.text.specs.Bytes.{byteAt, digit, letter, inSort, run, span}
 use Rattle.text.specs.Forms.{Part, itself, name, number, partOf, takeRun, takePart, takeSign, xAt, yAt, ending, fit, going, follow}
 use Rattle.text.specs.Grammar.{All, Form, done, sign, named, numbered}
-use Rattle.grammar.proofs.Runs.{by-test, cond-has, never, in-text, span-within, span-most, run-all}
+use Rattle.grammar.proofs.Runs.{by-test, never, in-text, run-all}
 use Rattle.grammar.proofs.Follows.{Reach, take-reach, byte-there, positive, above, rest, blanked, ended, ending-has}
 use Rattle.grammar.proofs.Accepts.{Tail, semi, stop}
 

@@ -8,23 +8,23 @@ use mathlib.Core.List.{append-assoc, append-nil}
 use lib.ListN.{length-append, length-drop, take-append-drop, List·getD-append}
 use lib.Seq.{take-append-seam, drop-append-seam, drop-drop, length-take-le, getD-take}
 use borrow.Author.Tests.{eqb-false}
-use Rattle.rules.specs.Words.{ℕ, zero, suc, _+_, _-_, Bool, true, false, cond, List, [], _∷_, _++_, length, take, drop, eqb}
+use Rattle.rules.specs.Words.{ℕ, suc, _+_, _-_, true, List, [], _∷_, _++_, length, take, drop, eqb}
 use Rattle.text.specs.declared.Sort.the-variants.{Blank}
 use Rattle.text.specs.declared.Fit.{Fit}
 use Rattle.text.specs.declared.TextRefusal.the-variants.{Text}
-use Rattle.text.specs.Bytes.{byteAt, run, span}
+use Rattle.text.specs.Bytes.{run, span}
 use Rattle.text.specs.Forms.{signsOf, bestOf}
 use Rattle.text.specs.Reading.{reads, refused, readText}
 use Rattle.text.specs.Grammar as grammar
 use Rattle.text.specs.Grammar.{All, Form, Some, last, more, blanks, some, Start}
-use Rattle.grammar.specs.Promises.{Place12, Placed}
+use Rattle.grammar.specs.Promises.{Placed}
 use Rattle.grammar.proofs.Runs.{by-test, never, span-all, run-all}
 use Rattle.grammar.proofs.Follows.{blanked}
 use Rattle.grammar.proofs.Accepts.{Tail, semi, stop}
 use Rattle.grammar.proofs.Local.{Agree, blanks-local, best-local}
-use Rattle.grammar.proofs.Parts.{Piece, joined, run-piece, Shown, Begun}
-use Rattle.grammar.proofs.Instructions.{passed, found, Seen, seen, Broken, broken}
-use Rattle.grammar.proofs.Stuck.{Stuck, here, later, blanked-in, ahead, not-back, stuck-behind, stuck-within, refused-stuck}
+use Rattle.grammar.proofs.Parts.{Piece, joined, run-piece, Shown}
+use Rattle.grammar.proofs.Instructions.{text-length, passed, found, seen, broken}
+use Rattle.grammar.proofs.Stuck.{Stuck, here, later, blanked-in, not-back, stuck-behind, stuck-within, refused-stuck}
 
 -- ## Stuck alike
 
@@ -68,11 +68,6 @@ module _ (i : ℕ) (pre b u c z : List ℕ) (hi : i < 17) (bs : All Blank b) (f 
   goes-on : {p : ℕ} → Stuck w (length pre) p → (length pre + length b + length u + length c + 1 ≤ length w) × Stuck w (length pre + length b + length u + length c + 1) p
   goes-on q = not-here found-at found-to q
 
-  text-length : length w ≡ length pre + (length b + (length u + (length c + length z)))
-  text-length =
-      length-append pre (b ++ (u ++ (c ++ z))) ∙ ap (λ (m : ℕ). length pre + m)
-      (length-append b (u ++ (c ++ z)) ∙ ap (λ (m : ℕ). length b + m) (length-append u (c ++ z) ∙ ap (λ (m : ℕ). length u + m) (length-append c z)))
-
 last-not : (i : ℕ) (pre b u c : List ℕ) (p : ℕ) → i < 17 → All Blank b → Form (signsOf (suc i)) u → All Blank c → Stuck (pre ++ (b ++ (u ++ c))) (length pre) p → ⊥
 last-not i pre b u c p hi bs f cs q =
     let e : c ++ [] ≡ c = append-nil c in
@@ -81,16 +76,16 @@ last-not i pre b u c p hi bs f cs q =
     omega (arith, g .0)
 
 -- What stands before the next instruction.
-abbrev upTo : List ℕ → List ℕ → List ℕ → List ℕ
+abbrev pub upTo : List ℕ → List ℕ → List ℕ → List ℕ
 upTo b u c = b ++ (u ++ (c ++ (code ";" ∷ [])))
 
-behind : (pre b u c v : List ℕ) → (pre ++ upTo b u c) ++ v ≡ pre ++ (b ++ (u ++ (c ++ (code ";" ∷ v))))
+pub behind : (pre b u c v : List ℕ) → (pre ++ upTo b u c) ++ v ≡ pre ++ (b ++ (u ++ (c ++ (code ";" ∷ v))))
 behind pre b u c v =
     append-assoc pre (upTo b u c) v ∙ ap (λ (l : List ℕ). pre ++ l)
     (append-assoc b (u ++ (c ++ (code ";" ∷ []))) v ∙ ap (λ (l : List ℕ). b ++ l)
     (append-assoc u (c ++ (code ";" ∷ [])) v ∙ ap (λ (l : List ℕ). u ++ l) (append-assoc c (code ";" ∷ []) v)))
 
-upTo-length : (pre b u c : List ℕ) → length (pre ++ upTo b u c) ≡ length pre + length b + length u + length c + 1
+pub upTo-length : (pre b u c : List ℕ) → length (pre ++ upTo b u c) ≡ length pre + length b + length u + length c + 1
 upTo-length pre b u c =
     let n₁ = length-append pre (upTo b u c) in
     let n₂ = length-append b (u ++ (c ++ (code ";" ∷ []))) in
@@ -109,7 +104,7 @@ some-not pre p (last i b u c hi bs f cs) q = last-not i pre b u c p hi bs f cs q
 some-not pre p (more i b u c {v} hi bs f cs m) q = some-not (pre ++ upTo b u c) p m (more-next i pre b u c v p hi bs f cs q)
 
 -- A text of blanks alone is stuck at its end only.
-all-blank : (b : List ℕ) → All Blank b → span Blank b 0 (length b) ≡ length b
+pub all-blank : (b : List ℕ) → All Blank b → span Blank b 0 (length b) ≡ length b
 all-blank b bs = subst (λ (l : List ℕ). span Blank l 0 (length b) ≡ length b) (append-nil b) (span-all Blank [] b [] bs)
 
 blank-end : (b : List ℕ) (p : ℕ) → All Blank b → Stuck b 0 p → length b < p
@@ -131,7 +126,7 @@ module _ (w : List ℕ) where
       ap (λ (y : List ℕ). take e y) (sym d) ∙ ap (λ (m : ℕ). take m (x ++ drop e w)) (sym l) ∙ take-append-seam x (drop e w)
 
   -- An instruction that is whole and has another behind it.
-  shown-piece : {ps : List ℕ} {at far : ℕ} → far ≤ length w → at ≤ length w → (r : Shown w ps at far) → (q : Piece w at far) × (q .bytes ≡ r .u ++ (r .c ++ (code ";" ∷ [])))
+  pub shown-piece : {ps : List ℕ} {at far : ℕ} → far ≤ length w → at ≤ length w → (r : Shown w ps at far) → (q : Piece w at far) × (q .bytes ≡ r .u ++ (r .c ++ (code ";" ∷ [])))
   shown-piece {at = at} {far = far} lf h r = by (r .z) (r .tail) (r .stands)
     where
       by : (z : List ℕ) → Tail z → drop at w ≡ r .u ++ (r .c ++ z) → (q : Piece w at far) × (q .bytes ≡ r .u ++ (r .c ++ (code ";" ∷ [])))

@@ -7,9 +7,9 @@ use lib.Dec.{T}
 use lib.ListN.{length-append}
 use lib.Seq.{append-snoc}
 use borrow.Author.Tests.{eqb-true}
-use Rattle.rules.specs.Words.{ℕ, zero, suc, _+_, Bool, true, false, cond, _&&_, _||_, List, [], _∷_, _++_, length, eqb}
+use Rattle.rules.specs.Words.{ℕ, suc, _+_, Bool, true, false, cond, _&&_, _||_, List, [], _∷_, _++_, length, eqb}
 use Rattle.text.specs.declared.Sort.the-variants.{Digit, Named}
-use Rattle.text.specs.Bytes.{digit, letter, inSort, run}
+use Rattle.text.specs.Bytes.{letter}
 use Rattle.text.specs.Forms.{a, k, s, t, signsOf, letterIn, Part, itself, name, number, partOf, xAt, yAt}
 use Rattle.text.specs.Names.{nameAt, digitsAt}
 use Rattle.text.specs.Grammar.{All, Form, done, sign, named, numbered}

@@ -1,31 +1,21 @@
 -- A reading that is refused 12 is stuck: instruction after instruction is whole, and then one is not.
 use mathlib.Core.Path.{_≡_, refl, sym, ap, _∙_, subst}
 use Prim.Native.Nat.{_≤_, _<_}
-use Prim.Native.Char.{code}
 use native.Mathlib.Omega.{arith}
-use mathlib.Core.List.{append-assoc, append-nil}
-use lib.ListN.{length-append, length-drop, take-append-drop}
-use lib.Seq.{take-append-seam, drop-append-seam, drop-drop, length-take-le, getD-append-seam, getD-take, take-append-le}
-use lib.ListN.{List·getD-append}
-use borrow.Author.Tests.{eqb-true, ltb-true, ltb-false}
-use Rattle.rules.specs.Words.{ℕ, zero, suc, _+_, _-_, Bool, true, false, cond, List, [], _∷_, _++_, length, take, drop, eqb, ltb}
+use lib.ListN.{length-append, length-drop}
+use borrow.Author.Tests.{ltb-false}
+use Rattle.rules.specs.Words.{ℕ, zero, suc, _+_, _-_, true, false, cond, List, [], _∷_, _++_, length, drop, eqb, ltb}
 use Rattle.rules.specs.Record.{Rec}
 use Rattle.text.specs.declared.Sort.the-variants.{Blank}
 use Rattle.text.specs.declared.Fit.{Fit}
 use Rattle.text.specs.declared.TextRefusal.the-variants.{Text, Name, Earlier}
-use Rattle.text.specs.Bytes.{byteAt, run, span}
-use Rattle.text.specs.Forms.{a, k, s, letterOf, signsOf, bestOf}
-use Rattle.text.specs.Reading.{Next, made, bad, settled, known, withAction, withNumber, withLabelAt, withSecond, named, nextOf, Reading, reads, refused, onwards, readFrom, readText}
+use Rattle.text.specs.Forms.{a, k, s, letterOf, bestOf}
+use Rattle.text.specs.Reading.{Next, made, bad, settled, known, withAction, withNumber, withLabelAt, withSecond, named, nextOf, reads, refused, onwards, readFrom}
 use Rattle.text.specs.Names.{nameAt, numberAt, actionOf, labelOf, withLabel}
-use Rattle.text.specs.Grammar as grammar
-use Rattle.text.specs.Grammar.{All, Form, Some, last, more, Start}
-use Rattle.grammar.specs.Promises.{Place12, Placed}
-use Rattle.grammar.proofs.Runs.{by-test, cond-has, never, span-within, run-all}
+use Rattle.grammar.proofs.Runs.{by-test, cond-has, span-within}
 use Rattle.grammar.proofs.Follows.{blanked}
-use Rattle.grammar.proofs.Accepts.{Tail, semi, stop}
-use Rattle.grammar.proofs.Local.{Agree, blanks-local, best-local}
-use Rattle.grammar.proofs.Parts.{Piece, joined, run-piece, Shown, Begun}
-use Rattle.grammar.proofs.Instructions.{passed, found, Seen, seen, Broken, broken}
+use Rattle.grammar.proofs.Parts.{Piece}
+use Rattle.grammar.proofs.Instructions.{seen, broken}
 
 -- ## What a reading knows of the form it found
 
@@ -58,6 +48,10 @@ module _ (w : List ℕ) (es : List (List ℕ)) (f : Fit) where
       (λ _. cond-has (Fair f) (eqb letter s) _ _
       (λ _. label-fair us (f .x) (λ x us′. withLabelAt w us′ (f .y) (λ y us″. settled f x y us″)) (λ x us′. label-fair us′ (f .y) (λ y us″. settled f x y us″) (λ y us″. settled-fair x y us″)))
       (λ _. settled-fair 0 0 us)))
+
+pub next-fair : (w : List ℕ) (es us : List (List ℕ)) (at : ℕ) → Fair (bestOf w (blanked w at)) (nextOf w es us at)
+unfolding nextOf
+next-fair w es us at = fair w es (bestOf w (blanked w at)) (letterOf (bestOf w (blanked w at) .form)) us
 
 -- ## Stuck
 
