@@ -45,11 +45,11 @@ starts z (sign {p} e f) ok = T-not (inSort Blank p) (subst (λ (q : Part). T (st
 starts z (named n {u} e al lo hi f) ok = head-sort n u z (λ b m q. named-no-blank b (subst (λ (l : List ℕ). All Named l) q al .0)) lo
 starts z (numbered n {u} e al lo hi f) ok = head-sort n u z (λ b m q. named-no-blank b (digit-named b (subst (λ (l : List ℕ). All Digit l) q al .0))) lo
 
-forms-start : (i : ℕ) → i < 17 → T (startOk (signsOf (suc i)))
+pub forms-start : (i : ℕ) → i < 17 → T (startOk (signsOf (suc i)))
 unfolding partOf inSort blank
 forms-start i h = upto 17 (λ j. startOk (signsOf (suc j))) i tt h
 
-some-bytes : {ps u : List ℕ} → Form ps u → T (startOk ps) → 1 ≤ length u
+pub some-bytes : {ps u : List ℕ} → Form ps u → T (startOk ps) → 1 ≤ length u
 some-bytes done ok = absurd ok
 some-bytes (sign e f) ok = omega arith
 some-bytes (named n {u} e al lo hi f) ok = omega (arith, length-append n u)

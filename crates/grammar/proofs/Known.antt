@@ -61,10 +61,10 @@ more-grow us (n ∷ ns) = omega (arith, grows us n, more-grow (withLabel us n) n
 -- ## One instruction
 
 -- A name that is known is passed on, and only such a one.
-known-on : (p v : ℕ) (on : ℕ → Next) → (v ≡ 0 → ⊥) → known p v on ≡ on v
+pub known-on : (p v : ℕ) (on : ℕ → Next) → (v ≡ 0 → ⊥) → known p v on ≡ on v
 known-on p v on h = rw (ne-eqb v 0 h)
 
-known-was : (p v : ℕ) (on : ℕ → Next) {r : Rec} {us : List (List ℕ)} {e : ℕ} → known p v on ≡ made r us e → (v ≡ 0 → ⊥) × (on v ≡ made r us e)
+pub known-was : (p v : ℕ) (on : ℕ → Next) {r : Rec} {us : List (List ℕ)} {e : ℕ} → known p v on ≡ made r us e → (v ≡ 0 → ⊥) × (on v ≡ made r us e)
 known-was p v on {r} {us} {e} h =
     by-test (eqb v 0)
     (λ t. absurd (let z : bad (Name p) ≡ made r us e = rw t at h in let y : _≡_ {A = ℕ} 0 1 = cc in omega arith))
@@ -82,45 +82,45 @@ label-at w us q n on e = rw (ne-eqb (suc q) 0 (λ z. omega arith), sub-one, e)
 
 -- What a reading makes of a whole form, by its letter.
 module _ (w : List ℕ) (es us : List (List ℕ)) (i far : ℕ) where
-  abbrev found-form : ℕ → ℕ → Fit
+  abbrev pub found-form : ℕ → ℕ → Fit
   found-form x y = fit i true far x y
 
-  abbrev result : ℕ → ℕ → List (List ℕ) → Next
+  abbrev pub result : ℕ → ℕ → List (List ℕ) → Next
   result x y vs = made (formRecord i x y) vs far
 
-  abbrev on-action : ℕ → Next
+  abbrev pub on-action : ℕ → Next
   on-action v = result v 0 us
 
-  abbrev on-label : List ℕ → ℕ → Next
+  abbrev pub on-label : List ℕ → ℕ → Next
   on-label n v = result v 0 (withLabel us n)
 
-  abbrev on-second : List ℕ → List ℕ → ℕ → ℕ → Next
+  abbrev pub on-second : List ℕ → List ℕ → ℕ → ℕ → Next
   on-second n m v y = result v y (withLabel (withLabel us n) m)
 
-  abbrev on-first : ℕ → List ℕ → List ℕ → ℕ → Next
+  abbrev pub on-first : ℕ → List ℕ → List ℕ → ℕ → Next
   on-first r n m v = known (suc r) (labelOf (withLabel us n) m) (on-second n m v)
 
   settles : (x y x′ y′ : ℕ) (vs : List (List ℕ)) → settled (found-form x y) x′ y′ vs ≡ result x′ y′ vs
   unfolding settled
   settles x y x′ y′ vs = refl
 
-  by-none : (x y : ℕ) → named 0 w es us (found-form x y) ≡ result 0 0 us
+  pub by-none : (x y : ℕ) → named 0 w es us (found-form x y) ≡ result 0 0 us
   unfolding named
   by-none x y = settles x y 0 0 us
 
-  by-action : (q y : ℕ) (n : List ℕ) → nameAt w q ≡ n → named a w es us (found-form (suc q) y) ≡ known (suc q) (actionOf es n) on-action
+  pub by-action : (q y : ℕ) (n : List ℕ) → nameAt w q ≡ n → named a w es us (found-form (suc q) y) ≡ known (suc q) (actionOf es n) on-action
   unfolding named settled
   by-action q y n e = action-at w es q n (λ v. result v 0 us) e
 
-  by-figure : (q y : ℕ) → named k w es us (found-form (suc q) y) ≡ result (numberAt w q) 0 us
+  pub by-figure : (q y : ℕ) → named k w es us (found-form (suc q) y) ≡ result (numberAt w q) 0 us
   unfolding named withNumber settled
   by-figure q y = rw (ne-eqb (suc q) 0 (λ z. omega arith), sub-one)
 
-  by-label : (q : ℕ) (n : List ℕ) → nameAt w q ≡ n → named s w es us (found-form (suc q) 0) ≡ known (suc q) (labelOf us n) (on-label n)
+  pub by-label : (q : ℕ) (n : List ℕ) → nameAt w q ≡ n → named s w es us (found-form (suc q) 0) ≡ known (suc q) (labelOf us n) (on-label n)
   unfolding named withSecond withLabelAt settled
   by-label q n e = label-at w us q n (λ v vs. result v 0 vs) e
 
-  by-labels : (q r : ℕ) (n m : List ℕ) → nameAt w q ≡ n → nameAt w r ≡ m
+  pub by-labels : (q r : ℕ) (n m : List ℕ) → nameAt w q ≡ n → nameAt w r ≡ m
       → named s w es us (found-form (suc q) (suc r))
       ≡ known (suc q) (labelOf us n) (on-first r n m)
   unfolding named withSecond settled
@@ -195,22 +195,22 @@ labels-append us [] ms = refl
 labels-append us (n ∷ ns) ms = labels-append (withLabel us n) ns ms
 
 module _ (es us : List (List ℕ)) (i : ℕ) (pre b u c z : List ℕ) (hi : i < 17) (bs : All Blank b) (f : Form (signsOf (suc i)) u) (cs : All Blank c) (t : Tail z) where
-  abbrev whole : List ℕ
+  abbrev pub whole : List ℕ
   whole = pre ++ (b ++ (u ++ (c ++ z)))
 
-  abbrev start : ℕ
+  abbrev pub start : ℕ
   start = length pre + length b
 
-  abbrev end : ℕ
+  abbrev pub end : ℕ
   end = start + length u + length c + 1
 
-  spells : Spelt whole (letterOf (suc i)) (actionsIn f) (labelsIn f) (xIn f start 0) (yIn f start 0)
+  pub spells : Spelt whole (letterOf (suc i)) (actionsIn f) (labelsIn f) (xIn f start 0) (yIn f start 0)
   spells =
       let l : length (pre ++ b) ≡ start = length-append pre b in
       let r = spelt (pre ++ b) (c ++ z) f (all-shaped i hi) (all-spaced (suc i)) (blanks-stop c z cs (tail-stops t)) in
       rw (append-assoc pre b (u ++ (c ++ z)), l) at r
 
-  next-is : nextOf whole es us (length pre) ≡ named (letterOf (suc i)) whole es us (fit (suc i) true end (xIn f start 0) (yIn f start 0))
+  pub next-is : nextOf whole es us (length pre) ≡ named (letterOf (suc i)) whole es us (fit (suc i) true end (xIn f start 0) (yIn f start 0))
   unfolding nextOf
   next-is =
       ap (λ (j : ℕ). named (letterOf (bestOf whole j .form)) whole es us (bestOf whole j)) (passed i pre b u c z hi bs f cs t)
@@ -278,14 +278,14 @@ more-good es us i b u c v hi bs f cs k g =
 
 module _ (w : List ℕ) (es : List (List ℕ)) where
   -- An instruction that was found whole at `at`, and the text as it stands there.
-  record Here (at : ℕ) : Type 0 where
-    number : ℕ
-    hi : number < 17
-    shows : Shown w (signsOf (suc number)) (blanked w at) (bestOf w (blanked w at) .far)
-    stands : drop at w ≡ run Blank w at (length w) ++ (shows .u ++ (shows .c ++ shows .z))
-    before : take at w ++ (run Blank w at (length w) ++ (shows .u ++ (shows .c ++ shows .z))) ≡ w
+  pub record Here (at : ℕ) : Type 0 where
+    pub number : ℕ
+    pub hi : number < 17
+    pub shows : Shown w (signsOf (suc number)) (blanked w at) (bestOf w (blanked w at) .far)
+    pub stands : drop at w ≡ run Blank w at (length w) ++ (shows .u ++ (shows .c ++ shows .z))
+    pub before : take at w ++ (run Blank w at (length w) ++ (shows .u ++ (shows .c ++ shows .z))) ≡ w
 
-  here : (at : ℕ) → at ≤ length w → bestOf w (blanked w at) .whole ≡ true → Here at
+  pub here : (at : ℕ) → at ≤ length w → bestOf w (blanked w at) .whole ≡ true → Here at
   here at h t =
       let r = seen w (blanked w at) (blanked-in w at h) t in
       let s : drop at w ≡ run Blank w at (length w) ++ (r .shows .u ++ (r .shows .c ++ r .shows .z)) = run-stands w Blank at (length w) ∙ ap (λ (l : List ℕ). run Blank w at (length w) ++ l) (r .shows .stands) in

@@ -22,11 +22,11 @@ use Rattle.grammar.proofs.Apart.{upto}
 -- ## What a sign is
 
 -- A sign that stands for itself is no letter.
-record Literal (p : ℕ) : Type 0 where
-  not-a : eqb p a ≡ false
-  not-k : eqb p k ≡ false
-  not-s : eqb p s ≡ false
-  not-t : eqb p t ≡ false
+pub record Literal (p : ℕ) : Type 0 where
+  pub not-a : eqb p a ≡ false
+  pub not-k : eqb p k ≡ false
+  pub not-s : eqb p s ≡ false
+  pub not-t : eqb p t ≡ false
 
 or-left : (b c : Bool) → (b || c) ≡ false → b ≡ false
 or-left true c h = never h
@@ -36,7 +36,7 @@ or-right : (b c : Bool) → (b || c) ≡ false → c ≡ false
 or-right true c h = never h
 or-right false c h = h
 
-literal : (p : ℕ) → partOf p ≡ itself → Literal p
+pub literal : (p : ℕ) → partOf p ≡ itself → Literal p
 unfolding partOf
 literal p h =
     by-test (eqb p k)
@@ -61,7 +61,7 @@ literal p h =
             each false false true h = never h
             each false false false h = (refl, refl, refl)
 
-is-number : (p : ℕ) → partOf p ≡ number → p ≡ k
+pub is-number : (p : ℕ) → partOf p ≡ number → p ≡ k
 unfolding partOf
 is-number p h =
     by-test (eqb p k) (eqb-true p k)
@@ -111,7 +111,7 @@ record Free {ps u : List ℕ} (f : Form ps u) : Type 0 where
   x-stays : (at x : ℕ) → xIn f at x ≡ x
   y-stays : (at y : ℕ) → yIn f at y ≡ y
 
-x-literal : (p at x : ℕ) → Literal p → xAt p at x ≡ x
+pub x-literal : (p at x : ℕ) → Literal p → xAt p at x ≡ x
 unfolding xAt
 x-literal p at x l = rw (l .not-a, l .not-k, l .not-s)
 

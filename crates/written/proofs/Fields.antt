@@ -44,7 +44,7 @@ all-bounded : (j : ℕ) → j < 16 → T (bounded (rowOf Routine (suc j)))
 unfolding rowOf at rows
 all-bounded j h = upto 16 (λ i. bounded (rowOf Routine (suc i))) j tt h
 
-T-true : (b : Bool) → T b → b ≡ true
+pub T-true : (b : Bool) → T b → b ≡ true
 T-true true h = refl
 T-true false h = absurd h
 

@@ -140,7 +140,7 @@ only-then true true h g = refl
 only-then true false h g = absurd h
 only-then false c h g = absurd g
 
-action-letter : (i : ℕ) → i < 17 → T (uses a (signsOf (suc i))) → eqb (letterOf (suc i)) a ≡ true
+pub action-letter : (i : ℕ) → i < 17 → T (uses a (signsOf (suc i))) → eqb (letterOf (suc i)) a ≡ true
 unfolding letterIn
 action-letter i h u = only-then (uses a (signsOf (suc i))) (eqb (letterOf (suc i)) a) (upto 17 (λ j. only-if (uses a (signsOf (suc j))) (eqb (letterOf (suc j)) a)) i tt h) u
 

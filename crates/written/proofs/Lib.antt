@@ -3,3 +3,7 @@ pub mod Numbered
 pub mod Formed
 pub mod Fields
 pub mod Texts
+pub mod Made
+pub mod Again
+pub mod Checked
+pub mod RoundTrip

@@ -122,6 +122,14 @@ given us u l h =
     let g = r .upto in
     rw t (record { one = f; next = omega arith; few = l; grown = sym (greater-old (length us) (placeOf u us) (omega arith)) }))
 
+pub given-most : {m v m′ : ℕ} → Given m v m′ → v ≤ 999
+unfolding greater
+given-most {m} {v} {m′} g =
+    let f = g .few in
+    by-test (ltb m v)
+    (λ c. let e : m′ ≡ v = g .grown ∙ rw c in omega arith)
+    (λ c. let e : m′ ≡ m = g .grown ∙ rw c in omega (arith, ltb-false m v c))
+
 -- L1 to Lm.
 abbrev pub labelNames : ℕ → List (List ℕ)
 labelNames zero = []
@@ -161,7 +169,7 @@ place-present (suc m) v lo hi =
     (λ t. rw (place-present m v lo (ltb-false m v t), ne-eqb v 0 (λ z. omega arith)))
 
 -- With L1 to Lm before, Lv has the number v, and then they are L1 to the greater of m and v.
-pub labelled : (m v : ℕ) → 1 ≤ v → v ≤ suc m → greater m v ≤ 999 → labelOf (labelNames m) (labelName v) ≡ v
+labelled : (m v : ℕ) → 1 ≤ v → v ≤ suc m → greater m v ≤ 999 → labelOf (labelNames m) (labelName v) ≡ v
 unfolding labelOf
 labelled m v lo hi few =
     by-test (ltb m v)
@@ -172,7 +180,7 @@ labelled m v lo hi few =
     rw (place-absent m v k, n, lt-ltb m 999 f) (sym e))
     (λ t. let k = ltb-false m v t in rw (place-present m v lo k, ne-eqb v 0 (λ z. omega arith)))
 
-pub with-labelled : (m v : ℕ) → 1 ≤ v → v ≤ suc m → withLabel (labelNames m) (labelName v) ≡ labelNames (greater m v)
+with-labelled : (m v : ℕ) → 1 ≤ v → v ≤ suc m → withLabel (labelNames m) (labelName v) ≡ labelNames (greater m v)
 unfolding withLabel
 with-labelled m v lo hi =
     by-test (ltb m v)
@@ -180,3 +188,7 @@ with-labelled m v lo hi =
     let e : v ≡ suc m = omega arith in
     rw (place-absent m v k, e, greater-new m))
     (λ t. let k = ltb-false m v t in rw (place-present m v lo k, ne-eqb v 0 (λ z. omega arith), greater-old m v k))
+
+-- So a label that was given its number is read again from its name.
+pub label-back : {m v m′ : ℕ} → Given m v m′ → (labelOf (labelNames m) (labelName v) ≡ v) × (withLabel (labelNames m) (labelName v) ≡ labelNames m′)
+label-back {m} {v} {m′} g = (labelled m v (g .one) (g .next) (rw (← g .grown) (g .few)), with-labelled m v (g .one) (g .next) ∙ ap labelNames (sym (g .grown)))
