@@ -29,7 +29,7 @@ use Rattle.grammar.proofs.Spelt.{literal, is-number, x-literal, Spelt, plain, a
 use Rattle.grammar.proofs.Known.{known-on, on-action, on-label, on-first, on-second, by-none, by-action, by-figure, by-label, by-labels, spells, next-is}
 use Rattle.written.proofs.Decimal.{decimal-value}
 use Rattle.written.proofs.Numbered.{Given, given-most, labelNames, label-back}
-use Rattle.written.proofs.Formed.{Only, numbersIn, tags, tagged, uses, Formed, formed, action-letter, Instruction, instruction}
+use Rattle.written.proofs.Formed.{Only, numbersIn, tags, tagged, Formed, form-signs, Instruction, instruction}
 use Rattle.written.proofs.Texts.{space, space-blank, form-of}
 use Rattle.written.proofs.Made.{Right, of-none, of-action, of-number, of-label, of-labels, Rights, no-more, one-more}
 
@@ -245,26 +245,26 @@ module _ (i x y : ℕ) (h : i < 16) where
   unfolding formOf
   call-form n = rw (ne-eqb (suc i) 4 (λ z. n (omega arith)))
 
--- A form whose letter is not a has no action.
-no-action : {X : Type 0} (i l : ℕ) → i < 17 → letterOf (suc i) ≡ l → (l ≡ a → ⊥) → T (uses a (signsOf (suc i))) → X
-no-action i l h e n u = absurd (n (sym e ∙ eqb-true (letterOf (suc i)) a (action-letter i h u)))
+-- A letter other than a.
+not-a : {X : Type 0} (i l : ℕ) → letterOf (suc i) ≡ l → (l ≡ a → ⊥) → eqb (letterOf (suc i)) a ≡ true → X
+not-a i l e n q = absurd (n (sym e ∙ eqb-true (letterOf (suc i)) a q))
 
 module _ (es us : List (List ℕ)) where
   none-back : (i : ℕ) → i < 16 → letterOf (suc i) ≡ 0 → Back es us (rec (suc i) 0 0) us
   none-back i h e =
-      let f = formed es (rec (suc i) 0 0) (omega arith) (omega arith) (signsOf (suc i)) (no-action i 0 (omega arith) e (λ z. omega arith)) in
+      let f = form-signs es (rec (suc i) 0 0) i (omega arith) (not-a i 0 e (λ z. omega arith)) (λ _. omega arith) (omega arith) in
       as-own es us us (rec (suc i) 0 0) i 0 0 (own-form i 0 0 h (λ z. let q : 0 ≡ k = sym e ∙ z in omega arith)) (own-record i 0 0 h)
       (λ pre b z bs tl. back-none es us (rec (suc i) 0 0) i pre b z (omega arith) bs f tl e)
 
-  action-back : (i x : ℕ) → i < 16 → letterOf (suc i) ≡ a → proper es x ≡ true → actionOf es (nameOf es x) ≡ x → 1 ≤ x → x ≤ 9999 → Back es us (rec (suc i) x 0) us
-  action-back i x h e p q lo hi =
-      let f = formed es (rec (suc i) x 0) hi (omega arith) (signsOf (suc i)) (λ _. p) in
+  action-back : (i x : ℕ) → i < 16 → letterOf (suc i) ≡ a → proper es x ≡ true → actionOf es (nameOf es x) ≡ x → 1 ≤ x → Back es us (rec (suc i) x 0) us
+  action-back i x h e p q lo =
+      let f = form-signs es (rec (suc i) x 0) i (omega arith) (λ _. p) (λ n. never (rw e at n)) (omega arith) in
       as-own es us us (rec (suc i) x 0) i x 0 (own-form i x 0 h (λ z. let q : a ≡ k = sym e ∙ z in omega arith)) (own-record i x 0 h)
       (λ pre b z bs tl. back-action es us (rec (suc i) x 0) i pre b z (omega arith) bs f tl e q lo)
 
   number-back : (i x : ℕ) → i < 16 → letterOf (suc i) ≡ k → x ≤ 9999 → formOf (rec (suc i) x 0) ≡ suc i → Back es us (rec (suc i) x 0) us
   number-back i x h e hi g =
-      let f = formed es (rec (suc i) x 0) hi (omega arith) (signsOf (suc i)) (no-action i k (omega arith) e (λ z. omega arith)) in
+      let f = form-signs es (rec (suc i) x 0) i (omega arith) (not-a i k e (λ z. omega arith)) (λ _. hi) (omega arith) in
       as-own es us us (rec (suc i) x 0) i x 0 g (own-record i x 0 h)
       (λ pre b z bs tl. back-number es us (rec (suc i) x 0) i pre b z (omega arith) bs f tl e)
 
@@ -272,7 +272,7 @@ module _ (es us : List (List ℕ)) where
   stop-back : Back es us (rec 4 0 0) us
   unfolding formOf formRecord letterIn
   stop-back =
-      let f = formed es (rec 4 0 0) (omega arith) (omega arith) (signsOf 17) (λ u. absurd u) in
+      let f = form-signs es (rec 4 0 0) 16 (omega arith) (λ q. never (sym q)) (λ _. omega arith) (omega arith) in
       as-own es us us (rec 4 0 0) 16 0 0 refl refl (λ pre b z bs tl. back-none es us (rec 4 0 0) 16 pre b z (omega arith) bs f tl refl)
 
   any-number-back : (i x : ℕ) → i < 16 → letterOf (suc i) ≡ k → x ≤ 9999 → Back es us (rec (suc i) x 0) us
@@ -287,7 +287,7 @@ label-again : (es : List (List ℕ)) (i x m m′ : ℕ) → i < 16 → letterOf 
 label-again es i x m m′ h e tg g =
     let hi = given-most g in
     let r = label-back g in
-    let f = formed es (rec (suc i) x 0) (omega arith) (omega arith) (signsOf (suc i)) (no-action i s (omega arith) e (λ z. omega arith)) in
+    let f = form-signs es (rec (suc i) x 0) i (omega arith) (not-a i s e (λ z. omega arith)) (λ _. omega arith) (omega arith) in
     as-own es (labelNames m) (labelNames m′) (rec (suc i) x 0) i x 0 (own-form i x 0 h (λ z. let q : s ≡ k = sym e ∙ z in omega arith)) (own-record i x 0 h)
     (λ pre b z bs tl. back-label es (labelNames m) (rec (suc i) x 0) i pre b z (omega arith) bs f tl (labelNames m′) e tg (g .one) (r .0) (r .1))
 
@@ -298,20 +298,20 @@ labels-again es i x y m m′ m″ h e tg g g′ =
     let hi′ = given-most g′ in
     let r = label-back g in
     let r′ = label-back g′ in
-    let f = formed es (rec (suc i) x y) (omega arith) (omega arith) (signsOf (suc i)) (no-action i s (omega arith) e (λ z. omega arith)) in
+    let f = form-signs es (rec (suc i) x y) i (omega arith) (not-a i s e (λ z. omega arith)) (λ _. omega arith) (omega arith) in
     as-own es (labelNames m) (labelNames m″) (rec (suc i) x y) i x y (own-form i x y h (λ z. let q : s ≡ k = sym e ∙ z in omega arith)) (own-record i x y h)
     (λ pre b z bs tl. back-labels es (labelNames m) (rec (suc i) x y) i pre b z (omega arith) bs f tl (labelNames m′) (labelNames m″) e tg (g .one) (r .0) (r .1) (g′ .one) (r′ .0) (r′ .1))
 
-back : {es : List (List ℕ)} {m m′ : ℕ} {r : Rec} → length es ≤ 9999 → Right es m r m′ → Back es (labelNames m) r (labelNames m′)
-back {es} {m} l (of-none i h e) = none-back es (labelNames m) i h e
-back {es} {m} l (of-action i x h e p q lo hi) = action-back es (labelNames m) i x h e p q lo (omega arith)
-back {es} {m} l (of-number i x h e q) = any-number-back es (labelNames m) i x h e q
-back {es} {m} l (of-label i x m′ h e tg g) = label-again es i x m m′ h e tg g
-back {es} {m} l (of-labels i x y m′ m″ h e tg g g′) = labels-again es i x y m m′ m″ h e tg g g′
+back : {es : List (List ℕ)} {m m′ : ℕ} {r : Rec} → Right es m r m′ → Back es (labelNames m) r (labelNames m′)
+back {es} {m} (of-none i h e) = none-back es (labelNames m) i h e
+back {es} {m} (of-action i x h e p q lo hi) = action-back es (labelNames m) i x h e p q lo
+back {es} {m} (of-number i x h e q) = any-number-back es (labelNames m) i x h e q
+back {es} {m} (of-label i x m′ h e tg g) = label-again es i x m m′ h e tg g
+back {es} {m} (of-labels i x y m′ m″ h e tg g g′) = labels-again es i x y m m′ m″ h e tg g g′
 
 -- ## All of them
 
-module _ (es : List (List ℕ)) (l : length es ≤ 9999) where
+module _ (es : List (List ℕ)) where
   abbrev textFrom : List ℕ → Rec → List Rec → List ℕ
   textFrom b r rs = b ++ (written es r ++ furtherOnes es rs)
 
@@ -342,28 +342,25 @@ module _ (es : List (List ℕ)) (l : length es ≤ 9999) where
       → readFrom n (pre ++ textFrom b r rs) es (length pre) (labelNames m) before ≡ reads (before ++ (r ∷ rs))
   unfolding furtherOnes
   all-again zero pre b m m′ before r rs bs g gs h = absurd (omega (arith, length-append pre (textFrom b r rs)))
-  all-again (suc n) pre b m m′ before r [] bs g gs h = last-again n pre b (labelNames m) (labelNames m′) before r bs (back l g)
+  all-again (suc n) pre b m m′ before r [] bs g gs h = last-again n pre b (labelNames m) (labelNames m′) before r bs (back g)
   all-again (suc n) pre b m m′ before r (r′ ∷ rs) bs g (one-more m₁ m″ r₁ rs₁ g′ gs) h =
       let v = textFrom space r′ rs in
       let e : length ((pre ++ upTo b (written es r) []) ++ v) ≡ length (pre ++ textFrom b r (r′ ∷ rs)) = ap length (behind pre b (written es r) [] v) in
-      more-again n pre b v (labelNames m) (labelNames m′) before (before ++ (r ∷ r′ ∷ rs)) r bs (back l g)
+      more-again n pre b v (labelNames m) (labelNames m′) before (before ++ (r ∷ r′ ∷ rs)) r bs (back g)
       (all-again n (pre ++ upTo b (written es r) []) space m′ m″ (before ++ (r ∷ [])) r′ rs space-blank g′ gs (omega (arith, upTo-length pre b (written es r) []))
       ∙ ap reads (append-assoc before (r ∷ []) (r′ ∷ rs)))
 
 -- ## A whole text
 
-not-a : {X : Type 0} (i l : ℕ) → letterOf (suc i) ≡ l → eqb (letterOf (suc i)) a ≡ true → (l ≡ a → ⊥) → X
-not-a i l e q n = absurd (n (sym e ∙ eqb-true (letterOf (suc i)) a q))
-
-instruction-of : {es : List (List ℕ)} {m m′ : ℕ} {r : Rec} → length es ≤ 9999 → Right es m r m′ → Instruction es r
-instruction-of {es} l (of-none i h e) = instruction es (rec (suc i) 0 0) (omega arith) (omega arith) i h refl (λ q. not-a i 0 e q (λ z. omega arith))
-instruction-of {es} l (of-action i x h e p q lo hi) = instruction es (rec (suc i) x 0) (omega arith) (omega arith) i h refl (λ _. p)
-instruction-of {es} l (of-number i x h e q) = instruction es (rec (suc i) x 0) q (omega arith) i h refl (λ q. not-a i k e q (λ z. omega arith))
-instruction-of {es} l (of-label i x m′ h e tg g) = let u = given-most g in instruction es (rec (suc i) x 0) (omega arith) (omega arith) i h refl (λ q. not-a i s e q (λ z. omega arith))
-instruction-of {es} l (of-labels i x y m′ m″ h e tg g g′) =
+instruction-of : {es : List (List ℕ)} {m m′ : ℕ} {r : Rec} → Right es m r m′ → Instruction es r
+instruction-of {es} (of-none i h e) = instruction es (rec (suc i) 0 0) i h refl (not-a i 0 e (λ z. omega arith)) (λ _. omega arith) (omega arith)
+instruction-of {es} (of-action i x h e p q lo hi) = instruction es (rec (suc i) x 0) i h refl (λ _. p) (λ n. never (rw e at n)) (omega arith)
+instruction-of {es} (of-number i x h e q) = instruction es (rec (suc i) x 0) i h refl (not-a i k e (λ z. omega arith)) (λ _. q) (omega arith)
+instruction-of {es} (of-label i x m′ h e tg g) = let u = given-most g in instruction es (rec (suc i) x 0) i h refl (not-a i s e (λ z. omega arith)) (λ _. omega arith) (omega arith)
+instruction-of {es} (of-labels i x y m′ m″ h e tg g g′) =
     let u = given-most g in
     let v = given-most g′ in
-    instruction es (rec (suc i) x y) (omega arith) (omega arith) i h refl (λ q. not-a i s e q (λ z. omega arith))
+    instruction es (rec (suc i) x y) i h refl (not-a i s e (λ z. omega arith)) (λ _. omega arith) (omega arith)
 
 tail-of : (es : List (List ℕ)) (rs : List Rec) → Tail (furtherOnes es rs)
 unfolding furtherOnes
@@ -384,12 +381,12 @@ nothing-read : (es : List (List ℕ)) → readText (textOf es []) es ≡ reads [
 unfolding readText textOf run
 nothing-read es = refl
 
-pub text-again : {es : List (List ℕ)} {rs : List Rec} → length es ≤ 9999 → Rights es 0 rs → readText (textOf es rs) es ≡ reads rs
+pub text-again : {es : List (List ℕ)} {rs : List Rec} → Rights es 0 rs → readText (textOf es rs) es ≡ reads rs
 unfolding readText textOf
-text-again {es} l (no-more m) = nothing-read es
-text-again {es} l (one-more m m′ r rs g gs) =
-    rw (begins es r (furtherOnes es rs) (instruction-of l g) (tail-of es rs))
-    (all-again es l (length (written es r ++ furtherOnes es rs) + 1) [] [] 0 m′ [] r rs tt g gs (omega arith))
+text-again {es} (no-more m) = nothing-read es
+text-again {es} (one-more m m′ r rs g gs) =
+    rw (begins es r (furtherOnes es rs) (instruction-of g) (tail-of es rs))
+    (all-again es (length (written es r ++ furtherOnes es rs) + 1) [] [] 0 m′ [] r rs tt g gs (omega arith))
 
 -- ## Every action has its name
 

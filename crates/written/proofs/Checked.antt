@@ -21,9 +21,8 @@ use Rattle.text.specs.Names.{same}
 use Rattle.grammar.proofs.Runs.{by-test, never}
 use Rattle.grammar.proofs.Follows.{left, right}
 use Rattle.grammar.proofs.Apart.{allTo, upto}
-use Rattle.written.proofs.Numbered.{same-self, Given, given-most}
+use Rattle.written.proofs.Numbered.{T-true, Given, given-most}
 use Rattle.written.proofs.Formed.{tags}
-use Rattle.written.proofs.Fields.{T-true}
 use Rattle.written.proofs.Made.{Right, of-none, of-action, of-number, of-label, of-labels, Rights, no-more, one-more}
 
 -- A row that has all x from u to v and all y from p to q.

@@ -19,6 +19,7 @@ use Rattle.rules.proofs.Refusals.{when-none}
 use Rattle.grammar.proofs.Runs.{by-test, never}
 use Rattle.grammar.proofs.Follows.{left, right}
 use Rattle.grammar.proofs.Apart.{allTo, upto}
+use Rattle.written.proofs.Numbered.{T-true}
 
 and-left : (b c : Bool) → (b && c) ≡ true → b ≡ true
 and-left true c h = refl
@@ -43,10 +44,6 @@ bounded (some row) = leb (row .xmax) 9999 && leb (row .ymax) 9999
 all-bounded : (j : ℕ) → j < 16 → T (bounded (rowOf Routine (suc j)))
 unfolding rowOf at rows
 all-bounded j h = upto 16 (λ i. bounded (rowOf Routine (suc i))) j tt h
-
-pub T-true : (b : Bool) → T b → b ≡ true
-T-true true h = refl
-T-true false h = absurd h
 
 in-bounds : (o : Option Row) (r : Rec) → T (bounded o) → inRow o r ≡ true → (r .x ≤ 9999) × (r .y ≤ 9999)
 unfolding inRow

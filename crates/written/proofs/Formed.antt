@@ -4,7 +4,7 @@ use Prim.Native.Nat.{_≤_, _<_}
 use native.Mathlib.Omega.{arith}
 use lib.Dec.{T}
 use borrow.Author.Tests.{eqb-true}
-use Rattle.rules.specs.Words.{ℕ, zero, suc, Bool, true, false, not, cond, _||_, List, [], _∷_, _++_, map, length, eqb}
+use Rattle.rules.specs.Words.{ℕ, zero, suc, Bool, true, false, not, _||_, cond, List, [], _∷_, _++_, map, length, eqb}
 use Rattle.rules.specs.Record.{Rec}
 use Rattle.text.specs.declared.Sort.the-variants.{Named, Digit}
 use Rattle.text.specs.Forms.{a, k, s, t, signsOf, letterIn, letterOf, Part, itself, name, number, partOf}
@@ -13,9 +13,10 @@ use Rattle.text.specs.Writing.{decimal, labelName, writtenSign, writtenSigns, f
 use Rattle.text.specs.Grammar.{Form, done, sign, named, numbered}
 use Rattle.grammar.specs.Promises.{actionsIn, labelsIn}
 use Rattle.grammar.proofs.Runs.{by-test, never, run-all, span-most}
+use Rattle.grammar.proofs.Accepts.{T-not}
 use Rattle.grammar.proofs.Apart.{allTo, upto}
 use Rattle.written.proofs.Decimal.{decimal-digits, decimal-some, decimal-most, label-all, label-most}
-use Rattle.written.proofs.Numbered.{proper-some}
+use Rattle.written.proofs.Numbered.{T-true, proper-some}
 
 -- Every one of these is u.
 abbrev pub Only : List ℕ → List (List ℕ) → Type 0
@@ -97,52 +98,73 @@ module _ (es : List (List ℕ)) (r : Rec) (ps : List ℕ) (f : Formed es r ps) w
 
 -- ## All signs
 
-abbrev pub uses : ℕ → List ℕ → Bool
+-- The sign q is among these; so is one that x is written by as a number.
+abbrev uses : ℕ → List ℕ → Bool
 uses q [] = false
 uses q (p ∷ ps) = eqb p q || uses q ps
 
-or-left : (b c : Bool) → b ≡ true → T (b || c)
+abbrev counts : List ℕ → Bool
+counts ps = uses k ps || uses s ps
+
+or-left : (b c : Bool) → T b → T (b || c)
 or-left true c h = tt
-or-left false c h = never (sym h)
+or-left false c h = absurd h
 
 or-right : (b c : Bool) → T c → T (b || c)
 or-right true c h = tt
 or-right false c h = h
 
-module _ (es : List (List ℕ)) (r : Rec) (hx : r .x ≤ 9999) (hy : r .y ≤ 9999) where
+is-T : (b : Bool) → b ≡ true → T b
+is-T true h = tt
+is-T false h = never (sym h)
+
+module _ (es : List (List ℕ)) (r : Rec) (hy : r .y ≤ 9999) where
   nothing : Formed es r []
   unfolding writtenSigns tags
   nothing = record { form = done; actions = tt; numbers = tt; labels = refl }
 
-  formed-sign : (p : ℕ) (ps : List ℕ) → (eqb p a ≡ true → proper es (r .x) ≡ true) → Formed es r ps → Formed es r (p ∷ ps)
-  formed-sign p ps h f =
-      by-test (eqb p a) (λ e. is p a e (sign-a es r ps f (h e)))
-      (λ na. by-test (eqb p k) (λ e. is p k e (sign-k es r ps f hx))
-      (λ nk. by-test (eqb p s) (λ e. is p s e (sign-s es r ps f hx))
+  formed-sign : (p : ℕ) (ps : List ℕ) → (eqb p a ≡ true → proper es (r .x) ≡ true) → (eqb p k ≡ true → r .x ≤ 9999) → (eqb p s ≡ true → r .x ≤ 9999) → Formed es r ps → Formed es r (p ∷ ps)
+  formed-sign p ps ha hk hs f =
+      by-test (eqb p a) (λ e. is p a e (sign-a es r ps f (ha e)))
+      (λ na. by-test (eqb p k) (λ e. is p k e (sign-k es r ps f (hk e)))
+      (λ nk. by-test (eqb p s) (λ e. is p s e (sign-s es r ps f (hs e)))
       (λ ns. by-test (eqb p t) (λ e. is p t e (sign-t es r ps f hy))
       (λ nt. sign-itself es r ps f p na nk ns nt))))
     where
       is : (p q : ℕ) → eqb p q ≡ true → Formed es r (q ∷ ps) → Formed es r (p ∷ ps)
       is p q e g = subst (λ (n : ℕ). Formed es r (n ∷ ps)) (sym (eqb-true p q e)) g
 
-  pub formed : (ps : List ℕ) → (T (uses a ps) → proper es (r .x) ≡ true) → Formed es r ps
-  formed [] h = nothing
-  formed (p ∷ ps) h = formed-sign p ps (λ e. h (or-left (eqb p a) (uses a ps) e)) (formed ps (λ u. h (or-right (eqb p a) (uses a ps) u)))
+  formed : (ps : List ℕ) → (T (uses a ps) → proper es (r .x) ≡ true) → (T (uses k ps) → r .x ≤ 9999) → (T (uses s ps) → r .x ≤ 9999) → Formed es r ps
+  formed [] ha hk hs = nothing
+  formed (p ∷ ps) ha hk hs =
+      formed-sign p ps (λ e. ha (or-left (eqb p a) (uses a ps) (is-T _ e))) (λ e. hk (or-left (eqb p k) (uses k ps) (is-T _ e))) (λ e. hs (or-left (eqb p s) (uses s ps) (is-T _ e)))
+      (formed ps (λ u. ha (or-right (eqb p a) (uses a ps) u)) (λ u. hk (or-right (eqb p k) (uses k ps) u)) (λ u. hs (or-right (eqb p s) (uses s ps) u)))
 
--- ## A record's own form
+-- ## The signs of form i + 1
 
--- A form with an action's name has it as its letter.
+-- A form with an action's name has it as its letter, and one with such a letter has no number and no label.
 abbrev only-if : Bool → Bool → Bool
 only-if b c = not b || c
 
-only-then : (b c : Bool) → T (only-if b c) → T b → c ≡ true
-only-then true true h g = refl
-only-then true false h g = absurd h
+only-then : (b c : Bool) → T (only-if b c) → T b → T c
+only-then true c h g = h
 only-then false c h g = absurd g
 
-pub action-letter : (i : ℕ) → i < 17 → T (uses a (signsOf (suc i))) → eqb (letterOf (suc i)) a ≡ true
+action-if : (i : ℕ) → i < 17 → T (uses a (signsOf (suc i))) → T (eqb (letterOf (suc i)) a)
 unfolding letterIn
-action-letter i h u = only-then (uses a (signsOf (suc i))) (eqb (letterOf (suc i)) a) (upto 17 (λ j. only-if (uses a (signsOf (suc j))) (eqb (letterOf (suc j)) a)) i tt h) u
+action-if i h u = only-then (uses a (signsOf (suc i))) (eqb (letterOf (suc i)) a) (upto 17 (λ j. only-if (uses a (signsOf (suc j))) (eqb (letterOf (suc j)) a)) i tt h) u
+
+no-action-if : (i : ℕ) → i < 17 → T (counts (signsOf (suc i))) → T (not (eqb (letterOf (suc i)) a))
+unfolding letterIn
+no-action-if i h u = only-then (counts (signsOf (suc i))) (not (eqb (letterOf (suc i)) a)) (upto 17 (λ j. only-if (counts (signsOf (suc j))) (not (eqb (letterOf (suc j)) a))) i tt h) u
+
+pub form-signs : (es : List (List ℕ)) (r : Rec) (i : ℕ) → i < 17
+    → (eqb (letterOf (suc i)) a ≡ true → proper es (r .x) ≡ true) → (eqb (letterOf (suc i)) a ≡ false → r .x ≤ 9999) → r .y ≤ 9999 → Formed es r (signsOf (suc i))
+form-signs es r i h p hx hy =
+    formed es r hy (signsOf (suc i)) (λ u. p (T-true _ (action-if i h u)))
+    (λ u. hx (T-not _ (no-action-if i h (or-left (uses k (signsOf (suc i))) _ u)))) (λ u. hx (T-not _ (no-action-if i h (or-right (uses k (signsOf (suc i))) _ u))))
+
+-- ## A record's own form
 
 pub record Instruction (es : List (List ℕ)) (r : Rec) : Type 0 where
   pub number : ℕ
@@ -150,15 +172,18 @@ pub record Instruction (es : List (List ℕ)) (r : Rec) : Type 0 where
   pub is-form : formOf r ≡ suc number
   pub parts : Formed es r (signsOf (suc number))
 
-module _ (es : List (List ℕ)) (r : Rec) (hx : r .x ≤ 9999) (hy : r .y ≤ 9999) where
-  of-form : (i : ℕ) → i < 17 → formOf r ≡ suc i → (eqb (letterOf (suc i)) a ≡ true → proper es (r .x) ≡ true) → Instruction es r
-  of-form i h e p = record { number = i; listed = h; is-form = e; parts = formed es r hx hy (signsOf (suc i)) (λ u. p (action-letter i h u)) }
+pub instruction : (es : List (List ℕ)) (r : Rec) (j : ℕ) → j < 16 → r .kind ≡ suc j
+    → (eqb (letterOf (suc j)) a ≡ true → proper es (r .x) ≡ true) → (eqb (letterOf (suc j)) a ≡ false → r .x ≤ 9999) → r .y ≤ 9999 → Instruction es r
+unfolding formOf letterIn
+instruction es r j h e p hx hy =
+    by-test (eqb (r .kind) 4)
+    (λ f. by-test (eqb (r .x) 0)
+    (λ z. let c = eqb-true (r .x) 0 z in of-form 16 (omega arith) (rw (f, z)) (λ q. never (sym q)) (λ _. omega arith))
+    (λ z. of-form 3 (omega arith) (rw (f, z)) (λ q. never (sym q)) (λ q. hx (four (eqb-true (r .kind) 4 f)))))
+    (λ f. of-form j (omega arith) (rw f e) p hx)
+  where
+    four : r .kind ≡ 4 → eqb (letterOf (suc j)) a ≡ false
+    four c = let d : suc j ≡ 4 = sym e ∙ c in let q : j ≡ 3 = omega arith in rw q
 
-  pub instruction : (j : ℕ) → j < 16 → r .kind ≡ suc j → (eqb (letterOf (r .kind)) a ≡ true → proper es (r .x) ≡ true) → Instruction es r
-  unfolding formOf letterIn
-  instruction j h e p =
-      by-test (eqb (r .kind) 4)
-      (λ f. by-test (eqb (r .x) 0)
-      (λ z. of-form 16 (omega arith) (rw (f, z)) (λ q. never (sym q)))
-      (λ z. of-form 3 (omega arith) (rw (f, z)) (λ q. never (sym q))))
-      (λ f. of-form j (omega arith) (rw f e) (λ q. p (rw e q)))
+    of-form : (i : ℕ) → i < 17 → formOf r ≡ suc i → (eqb (letterOf (suc i)) a ≡ true → proper es (r .x) ≡ true) → (eqb (letterOf (suc i)) a ≡ false → r .x ≤ 9999) → Instruction es r
+    of-form i h e p hx = record { number = i; listed = h; is-form = e; parts = form-signs es r i h p hx hy }

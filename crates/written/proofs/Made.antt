@@ -26,9 +26,8 @@ use Rattle.grammar.proofs.Spelt.{Literal, literal, is-number, Spelt, plain, act
 use Rattle.grammar.proofs.Known.{known-was, result, on-action, on-label, on-first, on-second, by-none, by-action, by-figure, by-label, by-labels, spells, next-is, Here, here}
 use Rattle.grammar.proofs.Known as text
 use Rattle.written.proofs.Decimal.{number-most}
-use Rattle.written.proofs.Numbered.{same-is, Entered, entered, action-most, Given, given}
+use Rattle.written.proofs.Numbered.{T-true, same-is, Entered, entered, action-most, Given, given}
 use Rattle.written.proofs.Formed.{tags}
-use Rattle.written.proofs.Fields.{T-true}
 
 -- A record that is read with m labels before it, where there are then m′.
 pub data Right (es : List (List ℕ)) (m : ℕ) : Rec → ℕ → Type 0 where

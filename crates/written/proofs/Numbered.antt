@@ -3,6 +3,7 @@ use mathlib.Core.Path.{_≡_, refl, sym, ap, _∙_, subst}
 use Prim.Native.Nat.{_≤_, _<_}
 use native.Mathlib.Omega.{arith}
 use mathlib.Core.List.{append-assoc, append-nil}
+use lib.Dec.{T}
 use lib.ListN.{length-append}
 use borrow.Author.Tests.{eq-eqb, ne-eqb, eqb-true, eqb-false, le-leb, leb-true, lt-ltb, ltb-true, ltb-false}
 use Rattle.rules.specs.Words.{ℕ, zero, suc, _+_, _-_, Bool, true, false, cond, _&&_, _||_, List, [], _∷_, _++_, length, getD, replicate, eqb, leb, ltb}
@@ -15,6 +16,10 @@ use Rattle.grammar.proofs.Runs.{by-test, cond-has, never, run-all, span-most, r
 use Rattle.written.proofs.Decimal.{label-differs}
 
 -- ## The same bytes
+
+pub T-true : (b : Bool) → T b → b ≡ true
+T-true true h = refl
+T-true false h = absurd h
 
 pub same-self : (u : List ℕ) → same u u ≡ true
 unfolding same

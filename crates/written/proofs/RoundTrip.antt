@@ -24,6 +24,11 @@ use Rattle.written.proofs.Made.{Rights, text-right}
 use Rattle.written.proofs.Again.{text-again, named-again}
 use Rattle.written.proofs.Checked.{all-small, no-refusal}
 
+pub records-again : RecordsBack
+records-again w es rs e = let g = text-right w es rs e in (named-again 1 g, text-again g)
+
+-- ## The list of names
+
 -- A list that is not refused has at most 999 entries.
 entries-length : (n : ℕ) (l : List ℕ) → length (entriesOf n l) ≡ n
 entries-length zero l = refl
@@ -38,12 +43,6 @@ unfolding listFault
 entries-most l h =
     let q = ltb-false 999 (length l / 16) (or-right (not (eqb (length l % 16) 0)) (ltb 999 (length l / 16)) h) in
     omega (arith, entries-length (length l / 16) l)
-
-pub records-again : RecordsBack
-records-again w l rs h e =
-    let n = entries-most l h in
-    let g = text-right w (entries l) rs e in
-    (named-again 1 g, text-again (omega arith) g)
 
 -- ## What a reading that is done has read
 
@@ -94,13 +93,13 @@ module _ (w l : List ℕ) (n : ℕ) (g : Read w l n) where
   again-is = ap (textOf (entries l)) records-are
 
   reads-again : readText (again w l) (entries l) ≡ reads (g .rs)
-  reads-again = ap (λ (v : List ℕ). readText v (entries l)) again-is ∙ records-again w l (g .rs) (g .no-fault) (g .is-read) .1
+  reads-again = ap (λ (v : List ℕ). readText v (entries l)) again-is ∙ records-again w (entries l) (g .rs) (g .is-read) .1
 
   unrefused : first (recordChecks Routine (bytesRead w l)) ≡ none
   unrefused = ap (λ (v : List ℕ). first (recordChecks Routine v)) bytes-are ∙ no-refusal most-entries (g .few) right
 
   all-named : nameless (entries l) (records (bytesRead w l)) ≡ 0
-  all-named = ap (nameless (entries l)) records-are ∙ records-again w l (g .rs) (g .no-fault) (g .is-read) .0
+  all-named = ap (nameless (entries l)) records-are ∙ records-again w (entries l) (g .rs) (g .is-read) .0
 
   written-again : (text : List ℕ) → length (again w l) ≤ length text → writing (bytesRead w l) l text ≡ Done (length (again w l))
   unfolding writing writes orElse textWritten

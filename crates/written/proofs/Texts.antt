@@ -43,7 +43,7 @@ instructions i es [] h p e = tt
 instructions i es (r ∷ rs) h p e =
     let n = named-first i es r rs h e in
     let q = p .0 in
-    (instruction es r (q .x-most) (q .y-most) (q .number) (q .listed) (q .is-kind) (n .0), instructions (suc i) es rs (omega arith) (p .1) (n .1))
+    (instruction es r (q .number) (q .listed) (q .is-kind) (λ c. n .0 (rw (q .is-kind) c)) (λ _. q .x-most) (q .y-most), instructions (suc i) es rs (omega arith) (p .1) (n .1))
 
 -- ## Texts
 

@@ -1,10 +1,9 @@
 -- What is proved of the texts that are written: they are texts, and what was read comes back.
 use mathlib.Core.Path.{_≡_}
 use Prim.Native.Nat.{_≤_}
-use Rattle.rules.specs.Words.{ℕ, _*_, false, List, length}
+use Rattle.rules.specs.Words.{ℕ, _*_, List, length}
 use Rattle.rules.specs.Record.{Rec}
 use Rattle.text.specs.declared.TextVerdict.the-variants.{Done}
-use Rattle.text.specs.Names.{entries, listFault}
 use Rattle.text.specs.Reading.{reads, readText}
 use Rattle.text.specs.Writing.{textOf, nameless}
 use Rattle.text.specs.Answers.{reading, writing, bytesRead, textWritten}
@@ -18,11 +17,11 @@ WritesTexts = (s l text : List ℕ) (n : ℕ) → writing s l text ≡ Done n �
 -- ## Writing what was read, and reading it again (proofs/RoundTrip)
 
 -- The records that are read from a text all have their names, and what is written for them is read as the same records. The request has
--- this for a list of distinct names; it holds for every list that is not refused, since an action's number is its name's first place.
+-- this for a list of distinct names; it holds for every list, since an action's number is its name's first place.
 abbrev pub RecordsBack : Type 0
 RecordsBack =
-    (w l : List ℕ) (rs : List Rec) → listFault l ≡ false → readText w (entries l) ≡ reads rs
-    → (nameless (entries l) rs ≡ 0) × (readText (textOf (entries l) rs) (entries l) ≡ reads rs)
+    (w : List ℕ) (es : List (List ℕ)) (rs : List Rec) → readText w es ≡ reads rs
+    → (nameless es rs ≡ 0) × (readText (textOf es rs) es ≡ reads rs)
 
 -- The text that is written for what was read from w.
 abbrev pub again : List ℕ → List ℕ → List ℕ
