@@ -22,7 +22,7 @@ use Rattle.grammar.proofs.Parts.{Shown, shown, Begun, begun, begun-here
 named-no-blank : (b : ℕ) → inSort Named b ≡ true → inSort Blank b ≡ false
 named-no-blank b h = by-test (inSort Blank b) (λ t. never (sym h ∙ blank-not-named b t)) (λ t. t)
 
-digit-named : (b : ℕ) → inSort Digit b ≡ true → inSort Named b ≡ true
+pub digit-named : (b : ℕ) → inSort Digit b ≡ true → inSort Named b ≡ true
 unfolding inSort
 digit-named b h = rw h
 

@@ -32,7 +32,7 @@ or-left : (b c : Bool) → (b || c) ≡ false → b ≡ false
 or-left true c h = never h
 or-left false c h = refl
 
-or-right : (b c : Bool) → (b || c) ≡ false → c ≡ false
+pub or-right : (b c : Bool) → (b || c) ≡ false → c ≡ false
 or-right true c h = never h
 or-right false c h = h
 

@@ -4,129 +4,32 @@ use Prim.Native.Nat.{_≤_, _<_}
 use Prim.Native.Char.{code}
 use native.Mathlib.Omega.{arith}
 use mathlib.Core.List.{append-assoc}
-use lib.Dec.{T}
 use lib.ListN.{length-append}
-use lib.Seq.{append-snoc}
 use borrow.Author.Tests.{eqb-true, eqb-false, ne-eqb, lt-ltb, le-ltb}
-use Rattle.rules.specs.Words.{ℕ, zero, suc, _+_, Bool, true, false, cond, List, [], _∷_, _++_, map, length, eqb, ltb}
+use Rattle.rules.specs.Words.{ℕ, zero, suc, _+_, true, false, List, [], _∷_, _++_, map, length, eqb}
 use Rattle.rules.specs.Record.{Rec, rec}
-use Rattle.text.specs.declared.Sort.the-variants.{Blank, Digit, Named}
-use Rattle.text.specs.declared.Fit.{Fit}
-use Rattle.text.specs.Bytes.{byteAt, run, span}
-use Rattle.text.specs.Forms.{a, k, s, t, signsOf, letterIn, letterOf, Part, itself, name, number, partOf, xAt, fit}
-use Rattle.text.specs.Names.{nameAt, digitsAt, numberAt, valueOf, actionOf, nameOf, proper, labelOf, withLabel}
-use Rattle.text.specs.Reading.{Next, made, formRecord, known, named, nextOf, reads, onwards, readFrom, readText}
+use Rattle.text.specs.declared.Sort.the-variants.{Blank}
+use Rattle.text.specs.Bytes.{run, span}
+use Rattle.text.specs.Forms.{a, k, s, t, signsOf, letterIn, letterOf, number, fit}
+use Rattle.text.specs.Names.{valueOf, actionOf, nameOf, proper, labelOf, withLabel}
+use Rattle.text.specs.Reading.{made, formRecord, known, named, nextOf, reads, readFrom, readText}
 use Rattle.text.specs.Writing.{decimal, labelName, writtenSigns, formOf, written, furtherOnes, textOf, namelessFrom}
 use Rattle.text.specs.Grammar as grammar
-use Rattle.text.specs.Grammar.{All, Form, done, sign, numbered}
+use Rattle.text.specs.Grammar.{All}
 use Rattle.grammar.specs.Promises.{actionsIn, labelsIn}
-use Rattle.grammar.proofs.Runs.{by-test, never, run-exact}
-use Rattle.grammar.proofs.Accepts.{Stops, stops-digit, Tail, semi, stop, tail-stops, xIn, yIn}
-use Rattle.grammar.proofs.Apart.{allTo, upto}
+use Rattle.grammar.proofs.Runs.{by-test, never}
+use Rattle.grammar.proofs.Accepts.{Tail, semi, stop, tail-stops, xIn, yIn}
 use Rattle.grammar.proofs.Instructions.{passed, some-bytes, forms-start}
 use Rattle.grammar.proofs.Place.{upTo, behind, upTo-length}
-use Rattle.grammar.proofs.Spelt.{literal, is-number, x-literal, Spelt, plain, action, figure, label, labels}
-use Rattle.grammar.proofs.Known.{known-on, on-action, on-label, on-first, on-second, by-none, by-action, by-figure, by-label, by-labels, spells, next-is}
+use Rattle.grammar.proofs.Spelt.{Spelt, labels}
+use Rattle.grammar.proofs.Known.{known-on, on-action, on-label, on-first, by-none, by-action, by-figure, by-label, by-labels, spells, next-is}
+use Rattle.written.specs.Promises.{tags, tagged}
 use Rattle.written.proofs.Decimal.{decimal-value}
 use Rattle.written.proofs.Numbered.{Given, given-most, labelNames, label-back}
-use Rattle.written.proofs.Formed.{Only, numbersIn, tags, tagged, Formed, form-signs, Instruction, instruction}
+use Rattle.written.proofs.Formed.{Formed, form-signs, Instruction, instruction}
 use Rattle.written.proofs.Texts.{space, space-blank, form-of}
 use Rattle.written.proofs.Made.{Right, of-none, of-action, of-number, of-label, of-labels, Rights, no-more, one-more}
-
--- ## Where a reading looks for a number
-
-abbrev isEmpty : List ℕ → Bool
-isEmpty [] = true
-isEmpty (p ∷ ps) = false
-
--- A number comes last.
-abbrev figuredBy : Part → Bool → Bool → Bool
-figuredBy itself r e = r
-figuredBy name r e = false
-figuredBy number r e = e
-
-abbrev figured : List ℕ → Bool
-figured [] = false
-figured (p ∷ ps) = figuredBy (partOf p) (figured ps) (isEmpty ps)
-
-figures-tested : (i : ℕ) → i < 17 → T (cond (eqb (letterOf (suc i)) k) (figured (signsOf (suc i))) true)
-unfolding letterIn partOf
-figures-tested i h = upto 17 (λ j. cond (eqb (letterOf (suc j)) k) (figured (signsOf (suc j))) true) i tt h
-
-all-figured : (i : ℕ) → i < 17 → letterOf (suc i) ≡ k → T (figured (signsOf (suc i)))
-all-figured i h e = let r = figures-tested i h in rw e at r
-
-record Figure (w d : List ℕ) (x : ℕ) : Type 0 where
-  place : ℕ
-  x-is : x ≡ suc place
-  stands : digitsAt w place ≡ d
-
-ends : {ps u : List ℕ} (f : Form ps u) → T (isEmpty ps) → (u ≡ []) × ((at x : ℕ) → xIn f at x ≡ x)
-ends done h = (refl, λ at x. refl)
-ends (sign e f) h = absurd h
-ends (grammar.named n e al lo hi f) h = absurd h
-ends (numbered n e al lo hi f) h = absurd h
-
-x-number : (at : ℕ) → xAt k at 0 ≡ suc at
-unfolding xAt
-x-number at = omega arith
-
-last-figure : (d pre n u z : List ℕ) (x : ℕ) → All Digit n → length n ≤ 4 → u ≡ [] → Stops z → n ≡ d → x ≡ suc (length pre) → Figure (pre ++ ((n ++ u) ++ z)) d x
-last-figure d pre n u z x al hi e st q h =
-    let g : Stops (u ++ z) = rw e st in
-    record {
-      place = length pre;
-      x-is = h;
-      stands = ap (λ (l : List ℕ). digitsAt (pre ++ l) (length pre)) (append-assoc n u z) ∙ run-exact Digit pre n (u ++ z) 4 al hi (stops-digit _ g) ∙ q;
-    }
-
-figure-there : (d : List ℕ) {ps u : List ℕ} (pre z : List ℕ) (f : Form ps u) → T (figured ps) → Stops z → Only d (numbersIn f) → Figure (pre ++ (u ++ z)) d (xIn f (length pre) 0)
-figure-there d pre z done ok st o = absurd ok
-figure-there d pre z (sign {p} {ps} {u} e f) ok st o =
-    let n : length (pre ++ (p ∷ [])) ≡ length pre + 1 = length-append pre (p ∷ []) in
-    let g = figure-there d (pre ++ (p ∷ [])) z f (subst (λ (q : Part). T (figuredBy q (figured ps) (isEmpty ps))) e ok) st o in
-    let h : xIn f (length (pre ++ (p ∷ []))) 0 ≡ xIn f (length pre + 1) (xAt p (length pre) 0) = ap (λ (j : ℕ). xIn f j 0) n ∙ ap (xIn f (length pre + 1)) (sym (x-literal p (length pre) 0 (literal p e))) in
-    subst (Figure (pre ++ (p ∷ (u ++ z))) d) h (subst (λ (w : List ℕ). Figure w d (xIn f (length (pre ++ (p ∷ []))) 0)) (append-snoc pre p (u ++ z)) g)
-figure-there d pre z (grammar.named {p} {ps} n e al lo hi f) ok st o = absurd (subst (λ (q : Part). T (figuredBy q (figured ps) (isEmpty ps))) e ok)
-figure-there d pre z (numbered {p} {ps} n {u} e al lo hi f) ok st o =
-    let r = ends f (subst (λ (q : Part). T (figuredBy q (figured ps) (isEmpty ps))) e ok) in
-    last-figure d pre n u z _ al hi (r .0) st (o .0) (r .1 _ _ ∙ ap (λ (q : ℕ). xAt q (length pre) 0) (is-number p e) ∙ x-number (length pre))
-
--- ## Where it looks for names
-
-record Named1 (w n : List ℕ) (x : ℕ) : Type 0 where
-  place : ℕ
-  x-is : x ≡ suc place
-  stands : nameAt w place ≡ n
-
-module _ {w : List ℕ} {letter x y : ℕ} {ac ls : List (List ℕ)} where
-  an-action : (n : List ℕ) → Spelt w letter ac ls x y → letter ≡ a → Only n ac → Named1 w n x
-  an-action n (plain l e f) h o = absurd (let z : 0 ≡ a = sym l ∙ h in omega arith)
-  an-action n (action m q l e f g nm) h o = let p : Only n (m ∷ []) = rw e at o in record { place = q; x-is = g; stands = nm ∙ p .0 }
-  an-action n (figure m q l e f g nm) h o = absurd (let z : k ≡ a = sym l ∙ h in omega arith)
-  an-action n (label m q l e f g nm yz) h o = absurd (let z : s ≡ a = sym l ∙ h in omega arith)
-  an-action n (labels m m′ q r l e f g nm yz nm′) h o = absurd (let z : s ≡ a = sym l ∙ h in omega arith)
-
-  one-label : (n : List ℕ) → Spelt w letter ac ls x y → letter ≡ s → ls ≡ n ∷ [] → Named1 w n x × (y ≡ 0)
-  one-label n (plain l e f) h o = absurd (let z : 0 ≡ s = sym l ∙ h in omega arith)
-  one-label n (action m q l e f g nm) h o = absurd (let z : a ≡ s = sym l ∙ h in omega arith)
-  one-label n (figure m q l e f g nm) h o = absurd (let z : k ≡ s = sym l ∙ h in omega arith)
-  one-label n (label m q l e f g nm yz) h o =
-      let p : m ∷ [] ≡ n ∷ [] = sym f ∙ o in
-      let r : m ≡ n = cc in
-      (record { place = q; x-is = g; stands = nm ∙ r }, yz)
-  one-label n (labels m m′ q r l e f g nm yz nm′) h o = absurd (let z : 2 ≡ 1 = ap length (sym f ∙ o) in omega arith)
-
-  two-labels : (n n′ : List ℕ) → Spelt w letter ac ls x y → letter ≡ s → ls ≡ n ∷ n′ ∷ [] → Named1 w n x × Named1 w n′ y
-  two-labels n n′ (plain l e f) h o = absurd (let z : 0 ≡ s = sym l ∙ h in omega arith)
-  two-labels n n′ (action m q l e f g nm) h o = absurd (let z : a ≡ s = sym l ∙ h in omega arith)
-  two-labels n n′ (figure m q l e f g nm) h o = absurd (let z : k ≡ s = sym l ∙ h in omega arith)
-  two-labels n n′ (label m q l e f g nm yz) h o = absurd (let z : 1 ≡ 2 = ap length (sym f ∙ o) in omega arith)
-  two-labels n n′ (labels m m′ q r l e f g nm yz nm′) h o =
-      let p : m ∷ m′ ∷ [] ≡ n ∷ n′ ∷ [] = sym f ∙ o in
-      let d : m ≡ n = cc in
-      let d′ : m′ ≡ n′ = cc in
-      (record { place = q; x-is = g; stands = nm ∙ d }, record { place = r; x-is = yz; stands = nm′ ∙ d′ })
+use Rattle.written.proofs.Sought.{Figure, all-figured, figure-there, an-action, one-label, two-labels}
 
 -- ## One instruction, of form i + 1
 
@@ -184,7 +87,7 @@ module _ (es us : List (List ℕ)) (r : Rec) (i : ℕ) (pre b z : List ℕ) (hi 
   back-label : (vs : List (List ℕ)) → letterOf (suc i) ≡ s → tags (signsOf (suc i)) ≡ s ∷ [] → 1 ≤ r .x → labelOf us (labelName (r .x)) ≡ r .x → withLabel us (labelName (r .x)) ≡ vs
       → Reads (r .x) 0 vs
   back-label vs h tg lo e g =
-      let q = one-label (labelName (r .x)) spelt-here h (f .labels ∙ ap (map (tagged r)) tg) in
+      let q = one-label (labelName (r .x)) spelt-here h (f .labels ∙ ap (map (λ (p : ℕ). labelName (tagged r p))) tg) in
       let n = q .0 in
       at-letter s (suc (n .place)) 0 h (n .x-is) (q .1)
       ∙ by-label w es us (suc i) after (n .place) (labelName (r .x)) (n .stands)
@@ -197,7 +100,7 @@ module _ (es us : List (List ℕ)) (r : Rec) (i : ℕ) (pre b z : List ℕ) (hi 
       → 1 ≤ r .y → labelOf vs (labelName (r .y)) ≡ r .y → withLabel vs (labelName (r .y)) ≡ vs′
       → Reads (r .x) (r .y) vs′
   back-labels vs vs′ h tg lo e g lo′ e′ g′ =
-      let q = two-labels (labelName (r .x)) (labelName (r .y)) spelt-here h (f .labels ∙ ap (map (tagged r)) tg) in
+      let q = two-labels (labelName (r .x)) (labelName (r .y)) spelt-here h (f .labels ∙ ap (map (λ (p : ℕ). labelName (tagged r p))) tg) in
       let n = q .0 in
       let m = q .1 in
       let u = labelName (r .x) in

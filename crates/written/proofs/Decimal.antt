@@ -4,7 +4,7 @@ use Prim.Native.Nat.{_≤_, _<_}
 use native.Mathlib.Omega.{arith}
 use lib.ListN.{length-append}
 use borrow.Author.Tests.{le-leb, leb-true, lt-ltb, ltb-true, ltb-false}
-use Rattle.rules.specs.Words.{ℕ, zero, suc, _+_, _*_, _-_, _/_, _%_, Bool, true, false, cond, _&&_, _||_, List, [], _∷_, _++_, length, leb, ltb}
+use Rattle.rules.specs.Words.{ℕ, zero, suc, _+_, _*_, _-_, _/_, _%_, Bool, true, false, _&&_, List, [], _∷_, _++_, length, leb, ltb}
 use Rattle.text.specs.declared.Sort.{Sort}
 use Rattle.text.specs.declared.Sort.the-variants.{Digit, Named}
 use Rattle.text.specs.Bytes.{digit, letter, inSort}
@@ -12,16 +12,13 @@ use Rattle.text.specs.Names.{valueOf, digitsAt, numberAt}
 use Rattle.text.specs.Writing.{digits, decimal, labelName}
 use Rattle.text.specs.Grammar.{All}
 use Rattle.grammar.proofs.Runs.{by-test, never, span-most, run-all}
+use Rattle.grammar.proofs.Instructions.{digit-named}
 
-pub all-append : (c : Sort) (u v : List ℕ) → All c u → All c v → All c (u ++ v)
+all-append : (c : Sort) (u v : List ℕ) → All c u → All c v → All c (u ++ v)
 all-append c [] v p q = q
 all-append c (b ∷ u) v p q = (p .0, all-append c u v (p .1) q)
 
-pub digit-named : (b : ℕ) → inSort Digit b ≡ true → inSort Named b ≡ true
-unfolding inSort
-digit-named b h = rw h
-
-pub all-named : (u : List ℕ) → All Digit u → All Named u
+all-named : (u : List ℕ) → All Digit u → All Named u
 all-named [] p = tt
 all-named (b ∷ u) p = (digit-named b (p .0), all-named u (p .1))
 

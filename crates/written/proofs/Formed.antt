@@ -4,17 +4,18 @@ use Prim.Native.Nat.{_≤_, _<_}
 use native.Mathlib.Omega.{arith}
 use lib.Dec.{T}
 use borrow.Author.Tests.{eqb-true}
-use Rattle.rules.specs.Words.{ℕ, zero, suc, Bool, true, false, not, _||_, cond, List, [], _∷_, _++_, map, length, eqb}
+use Rattle.rules.specs.Words.{ℕ, suc, Bool, true, false, not, _||_, List, [], _∷_, _++_, map, eqb}
 use Rattle.rules.specs.Record.{Rec}
-use Rattle.text.specs.declared.Sort.the-variants.{Named, Digit}
-use Rattle.text.specs.Forms.{a, k, s, t, signsOf, letterIn, letterOf, Part, itself, name, number, partOf}
+use Rattle.text.specs.declared.Sort.the-variants.{Named}
+use Rattle.text.specs.Forms.{a, k, s, t, signsOf, letterIn, letterOf, itself, number, partOf}
 use Rattle.text.specs.Names.{entry, nameOf, proper}
-use Rattle.text.specs.Writing.{decimal, labelName, writtenSign, writtenSigns, formOf, written}
+use Rattle.text.specs.Writing.{decimal, labelName, writtenSign, writtenSigns, formOf}
 use Rattle.text.specs.Grammar.{Form, done, sign, named, numbered}
 use Rattle.grammar.specs.Promises.{actionsIn, labelsIn}
 use Rattle.grammar.proofs.Runs.{by-test, never, run-all, span-most}
 use Rattle.grammar.proofs.Accepts.{T-not}
-use Rattle.grammar.proofs.Apart.{allTo, upto}
+use Rattle.grammar.proofs.Apart.{upto}
+use Rattle.written.specs.Promises.{tags, tagged}
 use Rattle.written.proofs.Decimal.{decimal-digits, decimal-some, decimal-most, label-all, label-most}
 use Rattle.written.proofs.Numbered.{T-true, proper-some}
 
@@ -30,19 +31,11 @@ numbersIn (sign e f) = numbersIn f
 numbersIn (named n e al lo hi f) = numbersIn f
 numbersIn (numbered n e al lo hi f) = n ∷ numbersIn f
 
--- The letters of a form that stand for labels, and the label that a record writes for one.
-unfoldable pub tags : List ℕ → List ℕ
-tags [] = []
-tags (p ∷ ps) = let later = tags ps in cond (eqb p s || eqb p t) (p ∷ later) later
-
-abbrev pub tagged : Rec → ℕ → List ℕ
-tagged r p = labelName (cond (eqb p s) (r .x) (r .y))
-
 pub record FormedAs (es : List (List ℕ)) (r : Rec) (ps u : List ℕ) : Type 0 where
   pub form : Form ps u
   pub actions : Only (nameOf es (r .x)) (actionsIn form)
   pub numbers : Only (decimal (r .x)) (numbersIn form)
-  pub labels : labelsIn form ≡ map (tagged r) (tags ps)
+  pub labels : labelsIn form ≡ map (λ (p : ℕ). labelName (tagged r p)) (tags ps)
 
 abbrev pub Formed : List (List ℕ) → Rec → List ℕ → Type 0
 Formed es r ps = FormedAs es r ps (writtenSigns es r ps)
@@ -94,7 +87,7 @@ module _ (es : List (List ℕ)) (r : Rec) (ps : List ℕ) (f : Formed es r ps) w
       let q : partOf p ≡ itself = rw (nk, na, ns, nt) in
       let l : tags ps ≡ tags (p ∷ ps) = rw (ns, nt) in
       subst (λ (u : List ℕ). FormedAs es r (p ∷ ps) (u ++ writtenSigns es r ps)) e
-      (record { form = sign q (f .form); actions = f .actions; numbers = f .numbers; labels = f .labels ∙ ap (map (tagged r)) l })
+      (record { form = sign q (f .form); actions = f .actions; numbers = f .numbers; labels = f .labels ∙ ap (map (λ (p : ℕ). labelName (tagged r p))) l })
 
 -- ## All signs
 

@@ -4,6 +4,8 @@ pub mod Formed
 pub mod Fields
 pub mod Texts
 pub mod Made
+pub mod Sought
 pub mod Again
 pub mod Checked
 pub mod RoundTrip
+pub mod Routines

@@ -3,31 +3,30 @@
 use mathlib.Core.Path.{_≡_, refl, sym, ap, _∙_, subst}
 use Prim.Native.Nat.{_≤_, _<_}
 use native.Mathlib.Omega.{arith}
-use lib.Dec.{T}
 use mathlib.Core.List.{append-assoc}
 use lib.Seq.{length-take-le}
 use borrow.Author.Tests.{eqb-true, eqb-false, ltb-false}
-use Rattle.rules.specs.Words.{ℕ, zero, suc, _+_, Bool, true, false, cond, _||_, List, [], _∷_, _++_, length, take, eqb, ltb}
+use Rattle.rules.specs.Words.{ℕ, zero, suc, _+_, true, false, cond, _||_, List, [], _∷_, _++_, length, take, eqb, ltb}
 use Rattle.rules.specs.Record.{Rec, rec}
-use Rattle.text.specs.declared.Sort.the-variants.{Blank, Digit, Named}
+use Rattle.text.specs.declared.Sort.the-variants.{Blank, Named}
 use Rattle.text.specs.Bytes.{run, span}
-use Rattle.text.specs.Forms.{a, k, s, t, signsOf, letterIn, letterOf, Part, itself, name, number, partOf, fit, bestOf}
-use Rattle.text.specs.Names.{nameAt, numberAt, same, actionOf, nameOf, proper, labelOf, withLabel}
-use Rattle.text.specs.Reading.{Next, made, bad, formRecord, named, nextOf, Reading, reads, refused, onwards, readFrom, readText}
+use Rattle.text.specs.Forms.{a, k, s, t, signsOf, letterIn, letterOf, itself, name, number, partOf, fit, bestOf}
+use Rattle.text.specs.Names.{nameAt, numberAt, actionOf, nameOf, proper, labelOf, withLabel}
+use Rattle.text.specs.Reading.{Next, made, bad, formRecord, named, nextOf, reads, onwards, readFrom, readText}
 use Rattle.text.specs.Grammar as grammar
 use Rattle.text.specs.Grammar.{All, Form, done, sign, numbered}
 use Rattle.grammar.specs.Promises.{actionsIn, labelsIn}
-use Rattle.grammar.proofs.Runs.{by-test, cond-has, never, run-all, span-most}
+use Rattle.grammar.proofs.Runs.{by-test, cond-has, run-all, span-most}
 use Rattle.grammar.proofs.Follows.{blanked}
 use Rattle.grammar.proofs.Accepts.{Tail}
-use Rattle.grammar.proofs.Apart.{allTo, upto}
 use Rattle.grammar.proofs.Stuck.{Fair, next-fair}
-use Rattle.grammar.proofs.Spelt.{Literal, literal, is-number, Spelt, plain, action, figure, label, labels}
-use Rattle.grammar.proofs.Known.{known-was, result, on-action, on-label, on-first, on-second, by-none, by-action, by-figure, by-label, by-labels, spells, next-is, Here, here}
+use Rattle.grammar.proofs.Spelt.{literal, is-number, Spelt, plain, action, figure, label, labels}
+use Rattle.grammar.proofs.Known.{known-was, on-action, on-label, on-first, on-second, by-none, by-action, by-figure, by-label, by-labels, spells, next-is, here}
 use Rattle.grammar.proofs.Known as text
+use Rattle.written.specs.Promises.{tags}
 use Rattle.written.proofs.Decimal.{number-most}
-use Rattle.written.proofs.Numbered.{T-true, same-is, Entered, entered, action-most, Given, given}
-use Rattle.written.proofs.Formed.{tags}
+use Rattle.written.proofs.Numbered.{entered, action-most, Given, given}
+use Rattle.written.proofs.Fields.{with-tags}
 
 -- A record that is read with m labels before it, where there are then m′.
 pub data Right (es : List (List ℕ)) (m : ℕ) : Rec → ℕ → Type 0 where
@@ -73,18 +72,12 @@ counted (grammar.named {p} {ps} n e al lo hi f) = counted-name p ps n (labelsIn 
 counted (numbered {p} n e al lo hi f) = rw (is-number p e) (counted f)
 
 -- One letter for a label is s, two are s and t.
-abbrev tidy : List ℕ → Bool
-tidy l = cond (eqb (length l) 1) (same l (s ∷ [])) (cond (eqb (length l) 2) (same l (s ∷ t ∷ [])) true)
+module _ (i : ℕ) (h : i < 16) (e : letterOf (suc i) ≡ s) where
+  one-tag : 1 ≡ length (tags (signsOf (suc i))) → tags (signsOf (suc i)) ≡ s ∷ []
+  one-tag c = with-tags i h e (λ tg. tg) (λ tg. absurd (let z : 1 ≡ 2 = c ∙ ap length tg in omega arith))
 
-all-tidy : (i : ℕ) → i < 17 → T (tidy (tags (signsOf (suc i))))
-unfolding tags same
-all-tidy i h = upto 17 (λ j. tidy (tags (signsOf (suc j)))) i tt h
-
-one-tag : (l : List ℕ) → T (tidy l) → length l ≡ 1 → l ≡ s ∷ []
-one-tag l h e = same-is l (s ∷ []) (T-true _ (rw e at h))
-
-two-tags : (l : List ℕ) → T (tidy l) → length l ≡ 2 → l ≡ s ∷ t ∷ []
-two-tags l h e = same-is l (s ∷ t ∷ []) (T-true _ (rw e at h))
+  two-tags : 2 ≡ length (tags (signsOf (suc i))) → tags (signsOf (suc i)) ≡ s ∷ t ∷ []
+  two-tags c = with-tags i h e (λ tg. absurd (let z : 2 ≡ 1 = c ∙ ap length tg in omega arith)) (λ tg. tg)
 
 -- ## The record that is made
 
@@ -134,7 +127,7 @@ module _ (w : List ℕ) (es us : List (List ℕ)) (i far : ℕ) (hi : i < 17) (l
       → Right es (length us) (formRecord (suc i) (labelOf us n) 0) (length (withLabel us n))
   label-right n h c kn =
       let o = own-kind i hi (labelOf us n) 0 (λ z. let y : s ≡ 0 = sym h ∙ z in omega arith) in
-      rw (o .1) (of-label i (labelOf us n) (length (withLabel us n)) (o .0) h (one-tag (tags (signsOf (suc i))) (all-tidy i hi) (sym c)) (given us n l kn))
+      rw (o .1) (of-label i (labelOf us n) (length (withLabel us n)) (o .0) h (one-tag i (o .0) h c) (given us n l kn))
 
   labels-right : (n m : List ℕ) → letterOf (suc i) ≡ s → 2 ≡ length (tags (signsOf (suc i))) → (labelOf us n ≡ 0 → ⊥) → (labelOf (withLabel us n) m ≡ 0 → ⊥)
       → Right es (length us) (formRecord (suc i) (labelOf us n) (labelOf (withLabel us n) m)) (length (withLabel (withLabel us n) m))
@@ -142,7 +135,7 @@ module _ (w : List ℕ) (es us : List (List ℕ)) (i far : ℕ) (hi : i < 17) (l
       let o = own-kind i hi (labelOf us n) (labelOf (withLabel us n) m) (λ z. let y : s ≡ 0 = sym h ∙ z in omega arith) in
       let g = given us n l kn in
       rw (o .1) (of-labels i (labelOf us n) (labelOf (withLabel us n) m) (length (withLabel us n)) (length (withLabel (withLabel us n) m)) (o .0) h
-      (two-tags (tags (signsOf (suc i))) (all-tidy i hi) (sym c)) g (given (withLabel us n) m (g .few) km))
+      (two-tags i (o .0) h c) g (given (withLabel us n) m (g .few) km))
 
   was-right : {x y e : ℕ} {ac ls vs : List (List ℕ)} {r : Rec} → Spelt w (letterOf (suc i)) ac ls x y → Filled ac → length ls ≡ length (tags (signsOf (suc i)))
       → named (letterOf (suc i)) w es us (fit (suc i) true far x y) ≡ made r vs e → Right es (length us) r (length vs)
@@ -189,7 +182,7 @@ pub record Behind (es : List (List ℕ)) (m : ℕ) (rs rs′ : List Rec) : Type 
   pub joined : rs′ ≡ rs ++ qs
   pub right : Rights es m qs
 
-right-few : {es : List (List ℕ)} {m m′ : ℕ} {r : Rec} → m ≤ 999 → Right es m r m′ → m′ ≤ 999
+pub right-few : {es : List (List ℕ)} {m m′ : ℕ} {r : Rec} → m ≤ 999 → Right es m r m′ → m′ ≤ 999
 right-few l (of-none i h e) = l
 right-few l (of-action i x h e p q lo hi) = l
 right-few l (of-number i x h e q) = l

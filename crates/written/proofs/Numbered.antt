@@ -2,17 +2,17 @@
 use mathlib.Core.Path.{_≡_, refl, sym, ap, _∙_, subst}
 use Prim.Native.Nat.{_≤_, _<_}
 use native.Mathlib.Omega.{arith}
-use mathlib.Core.List.{append-assoc, append-nil}
 use lib.Dec.{T}
 use lib.ListN.{length-append}
 use borrow.Author.Tests.{eq-eqb, ne-eqb, eqb-true, eqb-false, le-leb, leb-true, lt-ltb, ltb-true, ltb-false}
-use Rattle.rules.specs.Words.{ℕ, zero, suc, _+_, _-_, Bool, true, false, cond, _&&_, _||_, List, [], _∷_, _++_, length, getD, replicate, eqb, leb, ltb}
-use Rattle.text.specs.declared.Sort.the-variants.{Digit, Named}
+use Rattle.rules.specs.Words.{ℕ, zero, suc, _+_, _-_, Bool, true, false, cond, _&&_, List, [], _∷_, _++_, length, getD, replicate, eqb, leb, ltb}
+use Rattle.text.specs.declared.Sort.the-variants.{Named}
 use Rattle.text.specs.Bytes.{byteAt, digit, letter, inSort, run}
 use Rattle.text.specs.Names.{same, placeFrom, placeOf, padded, actionOf, entry, nameOf, proper, labelOf, withLabel}
 use Rattle.text.specs.Writing.{labelName}
 use Rattle.text.specs.Grammar.{All}
-use Rattle.grammar.proofs.Runs.{by-test, cond-has, never, run-all, span-most, run-exact}
+use Rattle.grammar.proofs.Runs.{by-test, never, run-exact}
+use Rattle.written.specs.Promises.{greater}
 use Rattle.written.proofs.Decimal.{label-differs}
 
 -- ## The same bytes
@@ -93,10 +93,6 @@ proper-some es x h = by (leb 1 (length (nameOf es x))) refl h
     by false e g = never (sym g)
 
 -- ## Labels
-
--- The greater of two numbers: the labels so far are as many as the greatest of their numbers.
-unfoldable pub greater : ℕ → ℕ → ℕ
-greater m v = cond (ltb m v) v m
 
 pub greater-new : (m : ℕ) → greater m (suc m) ≡ suc m
 unfolding greater

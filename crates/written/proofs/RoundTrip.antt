@@ -1,9 +1,9 @@
 -- Writing what was read and reading it again gives the same records: over records, and over the calls' answers.
-use mathlib.Core.Path.{_≡_, refl, sym, ap, _∙_, subst}
-use Prim.Native.Nat.{_≤_, _<_}
+use mathlib.Core.Path.{_≡_, refl, sym, ap, _∙_}
+use Prim.Native.Nat.{_≤_}
 use native.Mathlib.Omega.{arith}
 use borrow.Author.Tests.{le-ltb, ltb-false}
-use Rattle.rules.specs.Words.{ℕ, zero, suc, _+_, _*_, _/_, _%_, Bool, true, false, not, cond, _||_, Option, none, List, [], _∷_, length, take, drop, eqb, ltb}
+use Rattle.rules.specs.Words.{ℕ, zero, suc, _*_, _/_, _%_, false, not, none, List, length, drop, eqb, ltb}
 use Rattle.rules.specs.declared.Notation.the-variants.{Routine}
 use Rattle.rules.specs.declared.Refusal.the-variants.{Long, Room}
 use Rattle.rules.specs.Record.{Rec, bytesOf, records}
@@ -11,15 +11,15 @@ use Rattle.rules.specs.Refusals.{first}
 use Rattle.rules.specs.Checks.{most, recordChecks}
 use Rattle.rules.specs.Answers.{short}
 use Rattle.rules.proofs.Records.{records-back}
-use Rattle.text.specs.declared.TextRefusal.{TextRefusal}
 use Rattle.text.specs.declared.TextRefusal.the-variants.{Name, Earlier}
 use Rattle.text.specs.declared.TextVerdict.the-variants.{Done, Refused}
 use Rattle.text.specs.Names.{entriesOf, entries, listFault}
 use Rattle.text.specs.Reading.{Reading, reads, refused, readText}
 use Rattle.text.specs.Writing.{textOf, nameless}
 use Rattle.text.specs.Answers.{fits, reading, recordsRead, writes, orElse, writing, bytesRead, textWritten}
-use Rattle.grammar.proofs.Runs.{by-test, never}
-use Rattle.written.specs.Promises.{RecordsBack, again, Back, RoundTrip}
+use Rattle.grammar.proofs.Runs.{by-test}
+use Rattle.grammar.proofs.Spelt.{or-right}
+use Rattle.written.specs.Promises.{RecordsBack, again, RoundTrip}
 use Rattle.written.proofs.Made.{Rights, text-right}
 use Rattle.written.proofs.Again.{text-again, named-again}
 use Rattle.written.proofs.Checked.{all-small, no-refusal}
@@ -33,10 +33,6 @@ records-again w es rs e = let g = text-right w es rs e in (named-again 1 g, text
 entries-length : (n : ℕ) (l : List ℕ) → length (entriesOf n l) ≡ n
 entries-length zero l = refl
 entries-length (suc n) l = ap suc (entries-length n (drop 16 l))
-
-or-right : (b c : Bool) → (b || c) ≡ false → c ≡ false
-or-right true c h = never h
-or-right false c h = h
 
 entries-most : (l : List ℕ) → listFault l ≡ false → length (entries l) ≤ 999
 unfolding listFault
@@ -119,4 +115,8 @@ module _ (w l : List ℕ) (n : ℕ) (g : Read w l n) where
 pub round-trip : RoundTrip
 round-trip w l out n d =
     let g = was-read w l out n d in
-    record { is-written = written-again w l n g; is-read = read-again w l n g; same = same-again w l n g }
+    record {
+      is-written = λ text h. written-again w l n g text (omega (arith, h));
+      is-read = λ out h. read-again w l n g out (omega (arith, h));
+      same = same-again w l n g;
+    }

@@ -1,19 +1,19 @@
 -- What is written is in the grammar: instruction by instruction, with a blank behind each `;`.
-use mathlib.Core.Path.{_≡_, refl, sym, ap, _∙_, subst}
-use Prim.Native.Nat.{_≤_, _<_}
+use mathlib.Core.Path.{_≡_, refl, sym, ap, _∙_}
+use Prim.Native.Nat.{_≤_}
 use Prim.Native.Char.{code}
 use native.Mathlib.Omega.{arith}
 use borrow.Author.Tests.{eqb-true}
-use Rattle.rules.specs.Words.{ℕ, zero, suc, Bool, true, false, cond, Option, none, some, List, [], _∷_, _++_, length, eqb, ltb}
+use Rattle.rules.specs.Words.{ℕ, suc, true, Option, none, some, List, [], _∷_, _++_, eqb}
 use Rattle.rules.specs.declared.Refusal.{Refusal}
 use Rattle.rules.specs.declared.Notation.the-variants.{Routine}
 use Rattle.rules.specs.Record.{Rec, count, records}
 use Rattle.rules.specs.Refusals.{first}
 use Rattle.rules.specs.Checks.{recordChecks}
 use Rattle.rules.proofs.Records as paper
-use Rattle.rules.proofs.Refusals.{Fine, fine}
+use Rattle.rules.proofs.Refusals.{fine}
 use Rattle.text.specs.declared.Sort.the-variants.{Blank}
-use Rattle.text.specs.declared.TextRefusal.the-variants.{Name, Earlier}
+use Rattle.text.specs.declared.TextRefusal.the-variants.{Name}
 use Rattle.text.specs.declared.TextVerdict.{TextVerdict}
 use Rattle.text.specs.declared.TextVerdict.the-variants.{Done, Refused}
 use Rattle.text.specs.Bytes.{blank, inSort}
@@ -22,10 +22,10 @@ use Rattle.text.specs.Names.{entries, listFault, proper}
 use Rattle.text.specs.Writing.{written, writtenSigns, furtherOnes, textOf, namelessFrom, nameless}
 use Rattle.text.specs.Answers.{writes, orElse, writing, textWritten}
 use Rattle.text.specs.Grammar as grammar
-use Rattle.text.specs.Grammar.{All, Form, Some, last, more, blanks, some}
+use Rattle.text.specs.Grammar.{All, Some, last, more, blanks, some}
 use Rattle.grammar.proofs.Runs.{by-test, never}
 use Rattle.written.specs.Promises.{WritesTexts}
-use Rattle.written.proofs.Formed.{Formed, Instruction, instruction}
+use Rattle.written.proofs.Formed.{Instruction, instruction}
 use Rattle.written.proofs.Fields.{Ranged, faultless}
 
 -- ## Records that have their names
