@@ -117,8 +117,8 @@ module _ (es us : List (List ℕ)) (r : Rec) (i : ℕ) (pre b z : List ℕ) (hi 
 -- ## One record
 
 -- Written anywhere, with the labels us before it, the record is read again, and then there are the labels vs.
-abbrev pub Back : List (List ℕ) → List (List ℕ) → Rec → List (List ℕ) → Type 0
-Back es us r vs =
+abbrev ReadsBack : List (List ℕ) → List (List ℕ) → Rec → List (List ℕ) → Type 0
+ReadsBack es us r vs =
     (pre b z : List ℕ) → All Blank b → Tail z
     → nextOf (pre ++ (b ++ (written es r ++ z))) es us (length pre) ≡ made r vs (length pre + length b + length (written es r) + 0 + 1)
 
@@ -126,7 +126,7 @@ module _ (es us vs : List (List ℕ)) (r : Rec) (i x y : ℕ) where
   as-own : formOf r ≡ suc i → formRecord (suc i) x y ≡ r
       → ((pre b z : List ℕ) → All Blank b → Tail z
       → nextOf (pre ++ (b ++ (writtenSigns es r (signsOf (suc i)) ++ z))) es us (length pre) ≡ made (formRecord (suc i) x y) vs (length pre + length b + length (writtenSigns es r (signsOf (suc i))) + 0 + 1))
-      → Back es us r vs
+      → ReadsBack es us r vs
   as-own e g h pre b z bs tl =
       subst (λ (j : ℕ). nextOf (pre ++ (b ++ (writtenSigns es r (signsOf j) ++ z))) es us (length pre) ≡ made r vs (length pre + length b + length (writtenSigns es r (signsOf j)) + 0 + 1)) (sym e)
       (h pre b z bs tl ∙ ap (λ (q : Rec). made q vs (length pre + length b + length (writtenSigns es r (signsOf (suc i))) + 0 + 1)) g)
@@ -153,40 +153,40 @@ not-a : {X : Type 0} (i l : ℕ) → letterOf (suc i) ≡ l → (l ≡ a → ⊥
 not-a i l e n q = absurd (n (sym e ∙ eqb-true (letterOf (suc i)) a q))
 
 module _ (es us : List (List ℕ)) where
-  none-back : (i : ℕ) → i < 16 → letterOf (suc i) ≡ 0 → Back es us (rec (suc i) 0 0) us
+  none-back : (i : ℕ) → i < 16 → letterOf (suc i) ≡ 0 → ReadsBack es us (rec (suc i) 0 0) us
   none-back i h e =
       let f = form-signs es (rec (suc i) 0 0) i (omega arith) (not-a i 0 e (λ z. omega arith)) (λ _. omega arith) (omega arith) in
       as-own es us us (rec (suc i) 0 0) i 0 0 (own-form i 0 0 h (λ z. let q : 0 ≡ k = sym e ∙ z in omega arith)) (own-record i 0 0 h)
       (λ pre b z bs tl. back-none es us (rec (suc i) 0 0) i pre b z (omega arith) bs f tl e)
 
-  action-back : (i x : ℕ) → i < 16 → letterOf (suc i) ≡ a → proper es x ≡ true → actionOf es (nameOf es x) ≡ x → 1 ≤ x → Back es us (rec (suc i) x 0) us
+  action-back : (i x : ℕ) → i < 16 → letterOf (suc i) ≡ a → proper es x ≡ true → actionOf es (nameOf es x) ≡ x → 1 ≤ x → ReadsBack es us (rec (suc i) x 0) us
   action-back i x h e p q lo =
       let f = form-signs es (rec (suc i) x 0) i (omega arith) (λ _. p) (λ n. never (rw e at n)) (omega arith) in
       as-own es us us (rec (suc i) x 0) i x 0 (own-form i x 0 h (λ z. let q : a ≡ k = sym e ∙ z in omega arith)) (own-record i x 0 h)
       (λ pre b z bs tl. back-action es us (rec (suc i) x 0) i pre b z (omega arith) bs f tl e q lo)
 
-  number-back : (i x : ℕ) → i < 16 → letterOf (suc i) ≡ k → x ≤ 9999 → formOf (rec (suc i) x 0) ≡ suc i → Back es us (rec (suc i) x 0) us
+  number-back : (i x : ℕ) → i < 16 → letterOf (suc i) ≡ k → x ≤ 9999 → formOf (rec (suc i) x 0) ≡ suc i → ReadsBack es us (rec (suc i) x 0) us
   number-back i x h e hi g =
       let f = form-signs es (rec (suc i) x 0) i (omega arith) (not-a i k e (λ z. omega arith)) (λ _. hi) (omega arith) in
       as-own es us us (rec (suc i) x 0) i x 0 g (own-record i x 0 h)
       (λ pre b z bs tl. back-number es us (rec (suc i) x 0) i pre b z (omega arith) bs f tl e)
 
   -- ##0 is written as `!`.
-  stop-back : Back es us (rec 4 0 0) us
+  stop-back : ReadsBack es us (rec 4 0 0) us
   unfolding formOf formRecord letterIn
   stop-back =
       let f = form-signs es (rec 4 0 0) 16 (omega arith) (λ q. never (sym q)) (λ _. omega arith) (omega arith) in
       as-own es us us (rec 4 0 0) 16 0 0 refl refl (λ pre b z bs tl. back-none es us (rec 4 0 0) 16 pre b z (omega arith) bs f tl refl)
 
-  any-number-back : (i x : ℕ) → i < 16 → letterOf (suc i) ≡ k → x ≤ 9999 → Back es us (rec (suc i) x 0) us
+  any-number-back : (i x : ℕ) → i < 16 → letterOf (suc i) ≡ k → x ≤ 9999 → ReadsBack es us (rec (suc i) x 0) us
   any-number-back i x h e hi =
       by-test (eqb i 3)
       (λ c. by-test (eqb x 0)
-      (λ z. subst (λ (j : ℕ). Back es us (rec (suc j) x 0) us) (sym (eqb-true i 3 c)) (subst (λ (j : ℕ). Back es us (rec 4 j 0) us) (sym (eqb-true x 0 z)) stop-back))
+      (λ z. subst (λ (j : ℕ). ReadsBack es us (rec (suc j) x 0) us) (sym (eqb-true i 3 c)) (subst (λ (j : ℕ). ReadsBack es us (rec 4 j 0) us) (sym (eqb-true x 0 z)) stop-back))
       (λ z. number-back i x h e hi (number-form i x 0 h (eqb-false x 0 z))))
       (λ c. number-back i x h e hi (call-form i x 0 h (eqb-false i 3 c)))
 
-label-again : (es : List (List ℕ)) (i x m m′ : ℕ) → i < 16 → letterOf (suc i) ≡ s → tags (signsOf (suc i)) ≡ s ∷ [] → Given m x m′ → Back es (labelNames m) (rec (suc i) x 0) (labelNames m′)
+label-again : (es : List (List ℕ)) (i x m m′ : ℕ) → i < 16 → letterOf (suc i) ≡ s → tags (signsOf (suc i)) ≡ s ∷ [] → Given m x m′ → ReadsBack es (labelNames m) (rec (suc i) x 0) (labelNames m′)
 label-again es i x m m′ h e tg g =
     let hi = given-most g in
     let r = label-back g in
@@ -195,7 +195,7 @@ label-again es i x m m′ h e tg g =
     (λ pre b z bs tl. back-label es (labelNames m) (rec (suc i) x 0) i pre b z (omega arith) bs f tl (labelNames m′) e tg (g .one) (r .0) (r .1))
 
 labels-again : (es : List (List ℕ)) (i x y m m′ m″ : ℕ) → i < 16 → letterOf (suc i) ≡ s → tags (signsOf (suc i)) ≡ s ∷ t ∷ [] → Given m x m′ → Given m′ y m″
-    → Back es (labelNames m) (rec (suc i) x y) (labelNames m″)
+    → ReadsBack es (labelNames m) (rec (suc i) x y) (labelNames m″)
 labels-again es i x y m m′ m″ h e tg g g′ =
     let hi = given-most g in
     let hi′ = given-most g′ in
@@ -205,7 +205,7 @@ labels-again es i x y m m′ m″ h e tg g g′ =
     as-own es (labelNames m) (labelNames m″) (rec (suc i) x y) i x y (own-form i x y h (λ z. let q : s ≡ k = sym e ∙ z in omega arith)) (own-record i x y h)
     (λ pre b z bs tl. back-labels es (labelNames m) (rec (suc i) x y) i pre b z (omega arith) bs f tl (labelNames m′) (labelNames m″) e tg (g .one) (r .0) (r .1) (g′ .one) (r′ .0) (r′ .1))
 
-back : {es : List (List ℕ)} {m m′ : ℕ} {r : Rec} → Right es m r m′ → Back es (labelNames m) r (labelNames m′)
+back : {es : List (List ℕ)} {m m′ : ℕ} {r : Rec} → Right es m r m′ → ReadsBack es (labelNames m) r (labelNames m′)
 back {es} {m} (of-none i h e) = none-back es (labelNames m) i h e
 back {es} {m} (of-action i x h e p q lo hi) = action-back es (labelNames m) i x h e p q lo
 back {es} {m} (of-number i x h e q) = any-number-back es (labelNames m) i x h e q
@@ -218,7 +218,7 @@ module _ (es : List (List ℕ)) where
   abbrev textFrom : List ℕ → Rec → List Rec → List ℕ
   textFrom b r rs = b ++ (written es r ++ furtherOnes es rs)
 
-  last-again : (n : ℕ) (pre b : List ℕ) (us vs : List (List ℕ)) (before : List Rec) (r : Rec) → All Blank b → Back es us r vs
+  last-again : (n : ℕ) (pre b : List ℕ) (us vs : List (List ℕ)) (before : List Rec) (r : Rec) → All Blank b → ReadsBack es us r vs
       → readFrom (suc n) (pre ++ (b ++ (written es r ++ []))) es (length pre) us before ≡ reads (before ++ (r ∷ []))
   unfolding readFrom
   last-again n pre b us vs before r bs k =
@@ -227,7 +227,7 @@ module _ (es : List (List ℕ)) where
       let n₃ = length-append (written es r) [] in
       rw (k pre b [] bs stop, lt-ltb (length (pre ++ (b ++ (written es r ++ [])))) (length pre + length b + length (written es r) + 0 + 1) (omega arith))
 
-  more-again : (n : ℕ) (pre b v : List ℕ) (us vs : List (List ℕ)) (before after : List Rec) (r : Rec) → All Blank b → Back es us r vs
+  more-again : (n : ℕ) (pre b v : List ℕ) (us vs : List (List ℕ)) (before after : List Rec) (r : Rec) → All Blank b → ReadsBack es us r vs
       → readFrom n ((pre ++ upTo b (written es r) []) ++ v) es (length (pre ++ upTo b (written es r) [])) vs (before ++ (r ∷ [])) ≡ reads after
       → readFrom (suc n) (pre ++ (b ++ (written es r ++ (code ";" ∷ v)))) es (length pre) us before ≡ reads after
   unfolding readFrom

@@ -4,15 +4,16 @@ use Prim.Native.Nat.{_≤_, _<_}
 use native.Mathlib.Omega.{arith}
 use lib.ListN.{length-append}
 use borrow.Author.Tests.{le-leb, leb-true, lt-ltb, ltb-true, ltb-false}
-use Rattle.rules.specs.Words.{ℕ, zero, suc, _+_, _*_, _-_, _/_, _%_, Bool, true, false, _&&_, List, [], _∷_, _++_, length, leb, ltb}
+use Rattle.rules.specs.Words.{ℕ, zero, suc, _+_, _*_, _-_, _/_, _%_, true, List, [], _∷_, _++_, length, leb, ltb}
 use Rattle.text.specs.declared.Sort.{Sort}
 use Rattle.text.specs.declared.Sort.the-variants.{Digit, Named}
 use Rattle.text.specs.Bytes.{digit, letter, inSort}
 use Rattle.text.specs.Names.{valueOf, digitsAt, numberAt}
 use Rattle.text.specs.Writing.{digits, decimal, labelName}
 use Rattle.text.specs.Grammar.{All}
-use Rattle.grammar.proofs.Runs.{by-test, never, span-most, run-all}
+use Rattle.grammar.proofs.Runs.{by-test, span-most, run-all}
 use Rattle.grammar.proofs.Instructions.{digit-named}
+use Rattle.written.proofs.Truth.{and-right}
 
 all-append : (c : Sort) (u v : List ℕ) → All c u → All c v → All c (u ++ v)
 all-append c [] v p q = q
@@ -101,11 +102,7 @@ tens-grow (suc k) b = omega (arith, tens-grow k (10 * b))
 
 digit-most : (b : ℕ) → inSort Digit b ≡ true → b ≤ 57
 unfolding inSort digit
-digit-most b h = by (leb 48 b) h
-  where
-    by : (q : Bool) → (q && leb b 57) ≡ true → b ≤ 57
-    by true e = leb-true b 57 e
-    by false e = never (sym e)
+digit-most b h = leb-true b 57 (and-right (leb 48 b) _ h)
 
 value-most : (u : List ℕ) (v k b : ℕ) → All Digit u → v < b → length u ≤ k → valueOf u v < tensOf k b
 unfolding valueOf

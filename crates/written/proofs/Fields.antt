@@ -1,4 +1,4 @@
--- The kinds and fields of a routine's records: what refusals 3 and 4 leave, and what they do not take.
+-- The kinds and fields of a routine's records: what refusals 3 and 4 leave, and, by the letters of each kind's form, what its row has.
 use mathlib.Core.Path.{_≡_, refl, sym}
 use Prim.Native.Nat.{_≤_, _<_}
 use native.Mathlib.Omega.{arith}
@@ -22,21 +22,8 @@ use Rattle.grammar.proofs.Runs.{by-test, never}
 use Rattle.grammar.proofs.Follows.{left, right}
 use Rattle.grammar.proofs.Apart.{upto}
 use Rattle.written.specs.Promises.{tags}
-use Rattle.written.proofs.Numbered.{T-true, same-is}
-
-and-left : (b c : Bool) → (b && c) ≡ true → b ≡ true
-and-left true c h = refl
-and-left false c h = h
-
-and-right : (b c : Bool) → (b && c) ≡ true → c ≡ true
-and-right true c h = h
-and-right false c h = never (sym h)
-
-T-le : (m n : ℕ) → T (leb m n) → m ≤ n
-T-le m n h = leb-true m n (T-true _ h)
-
-T-eq : (m n : ℕ) → T (eqb m n) → m ≡ n
-T-eq m n h = eqb-true m n (T-true _ h)
+use Rattle.written.proofs.Truth.{T-true, T-le, T-eq, and-left, and-right}
+use Rattle.written.proofs.Numbered.{same-is}
 
 -- A record of kind 1 to 16 with its fields in range, so none above 9,999.
 pub record Ranged (r : Rec) : Type 0 where

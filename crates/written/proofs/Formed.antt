@@ -17,7 +17,8 @@ use Rattle.grammar.proofs.Accepts.{T-not}
 use Rattle.grammar.proofs.Apart.{upto}
 use Rattle.written.specs.Promises.{tags, tagged}
 use Rattle.written.proofs.Decimal.{decimal-digits, decimal-some, decimal-most, label-all, label-most}
-use Rattle.written.proofs.Numbered.{T-true, proper-some}
+use Rattle.written.proofs.Truth.{T-true, is-T, or-left, or-right}
+use Rattle.written.proofs.Numbered.{proper-some}
 
 -- Every one of these is u.
 abbrev pub Only : List ℕ → List (List ℕ) → Type 0
@@ -91,25 +92,13 @@ module _ (es : List (List ℕ)) (r : Rec) (ps : List ℕ) (f : Formed es r ps) w
 
 -- ## All signs
 
--- The sign q is among these; so is one that x is written by as a number.
+-- The sign q is among these; one by which x is written in digits is.
 abbrev uses : ℕ → List ℕ → Bool
 uses q [] = false
 uses q (p ∷ ps) = eqb p q || uses q ps
 
 abbrev counts : List ℕ → Bool
 counts ps = uses k ps || uses s ps
-
-or-left : (b c : Bool) → T b → T (b || c)
-or-left true c h = tt
-or-left false c h = absurd h
-
-or-right : (b c : Bool) → T c → T (b || c)
-or-right true c h = tt
-or-right false c h = h
-
-is-T : (b : Bool) → b ≡ true → T b
-is-T true h = tt
-is-T false h = never (sym h)
 
 module _ (es : List (List ℕ)) (r : Rec) (hy : r .y ≤ 9999) where
   nothing : Formed es r []

@@ -1,3 +1,4 @@
+pub mod Truth
 pub mod Decimal
 pub mod Numbered
 pub mod Formed

@@ -2,10 +2,9 @@
 use mathlib.Core.Path.{_≡_, refl, sym, ap, _∙_, subst}
 use Prim.Native.Nat.{_≤_, _<_}
 use native.Mathlib.Omega.{arith}
-use lib.Dec.{T}
 use lib.ListN.{length-append}
 use borrow.Author.Tests.{eq-eqb, ne-eqb, eqb-true, eqb-false, le-leb, leb-true, lt-ltb, ltb-true, ltb-false}
-use Rattle.rules.specs.Words.{ℕ, zero, suc, _+_, _-_, Bool, true, false, cond, _&&_, List, [], _∷_, _++_, length, getD, replicate, eqb, leb, ltb}
+use Rattle.rules.specs.Words.{ℕ, zero, suc, _+_, _-_, true, false, cond, List, [], _∷_, _++_, length, getD, replicate, eqb, leb, ltb}
 use Rattle.text.specs.declared.Sort.the-variants.{Named}
 use Rattle.text.specs.Bytes.{byteAt, digit, letter, inSort, run}
 use Rattle.text.specs.Names.{same, placeFrom, placeOf, padded, actionOf, entry, nameOf, proper, labelOf, withLabel}
@@ -13,13 +12,10 @@ use Rattle.text.specs.Writing.{labelName}
 use Rattle.text.specs.Grammar.{All}
 use Rattle.grammar.proofs.Runs.{by-test, never, run-exact}
 use Rattle.written.specs.Promises.{greater}
+use Rattle.written.proofs.Truth.{and-left, and-right}
 use Rattle.written.proofs.Decimal.{label-differs}
 
 -- ## The same bytes
-
-pub T-true : (b : Bool) → T b → b ≡ true
-T-true true h = refl
-T-true false h = absurd h
 
 pub same-self : (u : List ℕ) → same u u ≡ true
 unfolding same
@@ -83,14 +79,14 @@ entered es n al lo hi h =
 pub action-most : (es : List (List ℕ)) (n : List ℕ) → (actionOf es n ≡ 0 → ⊥) → (1 ≤ actionOf es n) × (actionOf es n ≤ length es)
 action-most es n h = let r = there 1 (padded 16 n) es h in let f = r .from in let g = r .upto in (f, omega arith)
 
--- What is proper has a name.
+-- What is proper has a name, and is that name padded.
 pub proper-some : (es : List (List ℕ)) (x : ℕ) → proper es x ≡ true → 1 ≤ length (nameOf es x)
 unfolding proper
-proper-some es x h = by (leb 1 (length (nameOf es x))) refl h
-  where
-    by : (q : Bool) → leb 1 (length (nameOf es x)) ≡ q → (q && same (padded 16 (nameOf es x)) (entry es x)) ≡ true → 1 ≤ length (nameOf es x)
-    by true e g = leb-true 1 _ e
-    by false e g = never (sym g)
+proper-some es x h = leb-true 1 _ (and-left (leb 1 (length (nameOf es x))) _ h)
+
+pub proper-same : (es : List (List ℕ)) (x : ℕ) → proper es x ≡ true → padded 16 (nameOf es x) ≡ entry es x
+unfolding proper
+proper-same es x h = same-is (padded 16 (nameOf es x)) (entry es x) (and-right (leb 1 (length (nameOf es x))) _ h)
 
 -- ## Labels
 

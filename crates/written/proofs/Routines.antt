@@ -5,7 +5,7 @@ use Prim.Native.Nat.{_≤_, _<_}
 use native.Mathlib.Omega.{arith}
 use lib.ListN.{List·getD-eq-default, length-append}
 use borrow.Author.Tests.{ltb-true, ltb-false}
-use Rattle.rules.specs.Words.{ℕ, zero, suc, _+_, _-_, Bool, true, false, _&&_, List, [], _∷_, _++_, map, length, getD, replicate, eqb, leb, ltb}
+use Rattle.rules.specs.Words.{ℕ, zero, suc, _+_, _-_, true, List, [], _∷_, _++_, map, length, getD, replicate, eqb, ltb}
 use Rattle.rules.specs.declared.Notation.the-variants.{Routine}
 use Rattle.rules.specs.Record.{Rec, rec, count, records}
 use Rattle.rules.specs.Table.{rowOf}
@@ -15,11 +15,11 @@ use Rattle.text.specs.Forms.{a, k, s, t, signsOf, letterOf}
 use Rattle.text.specs.Names.{same, placeFrom, placeOf, padded, actionOf, entries, entry, nameOf, proper}
 use Rattle.text.specs.Writing.{namelessFrom}
 use Rattle.text.specs.Answers.{textWritten}
-use Rattle.grammar.proofs.Runs.{by-test, never}
+use Rattle.grammar.proofs.Runs.{by-test}
 use Rattle.grammar.proofs.Follows.{right}
 use Rattle.grammar.proofs.Apart.{upto}
 use Rattle.written.specs.Promises.{Distinct, tags, tagged, labelNumbers, greater, InOrder, LabelsInOrder, RoutineBack}
-use Rattle.written.proofs.Numbered.{same-self, same-is, there, proper-some, Given}
+use Rattle.written.proofs.Numbered.{same-self, there, proper-some, proper-same, Given}
 use Rattle.written.proofs.Fields.{Ranged, inside, all-suited, faultless, no-tags, with-tags, by-letter}
 use Rattle.written.proofs.Texts.{named-first, writable}
 use Rattle.written.proofs.Made.{Right, of-none, of-action, of-number, of-label, of-labels, Rights, no-more, one-more, right-few, text-right}
@@ -61,14 +61,6 @@ placed i u (v ∷ vs) (suc j) h e z =
 record Listed (es : List (List ℕ)) (x : ℕ) : Type 0 where
   within : x ≤ length es
   first-place : actionOf es (nameOf es x) ≡ x
-
-proper-same : (es : List (List ℕ)) (x : ℕ) → proper es x ≡ true → padded 16 (nameOf es x) ≡ entry es x
-unfolding proper
-proper-same es x h = same-is (padded 16 (nameOf es x)) (entry es x) (by (leb 1 (length (nameOf es x))) h)
-  where
-    by : (q : Bool) → (q && same (padded 16 (nameOf es x)) (entry es x)) ≡ true → same (padded 16 (nameOf es x)) (entry es x) ≡ true
-    by true e = e
-    by false e = never (sym e)
 
 -- A proper entry is in the list.
 in-list : (es : List (List ℕ)) (x : ℕ) → proper es x ≡ true → x - 1 < length es
