@@ -10,18 +10,17 @@ use Rattle.rules.specs.Words.{ℕ, zero, suc, _+_, true, false, List, [], _∷_
 use Rattle.rules.specs.Record.{Rec, rec}
 use Rattle.text.specs.declared.Sort.the-variants.{Blank}
 use Rattle.text.specs.Bytes.{run, span}
-use Rattle.text.specs.Forms.{a, k, s, t, signsOf, letterIn, letterOf, number, fit}
+use Rattle.text.specs.Forms.{a, k, s, t, signsOf, letterIn, letterOf, fit}
 use Rattle.text.specs.Names.{valueOf, actionOf, nameOf, proper, labelOf, withLabel}
 use Rattle.text.specs.Reading.{made, formRecord, known, named, nextOf, reads, readFrom, readText}
 use Rattle.text.specs.Writing.{decimal, labelName, writtenSigns, formOf, written, furtherOnes, textOf, namelessFrom}
-use Rattle.text.specs.Grammar as grammar
 use Rattle.text.specs.Grammar.{All}
 use Rattle.grammar.specs.Promises.{actionsIn, labelsIn}
 use Rattle.grammar.proofs.Runs.{by-test, never}
 use Rattle.grammar.proofs.Accepts.{Tail, semi, stop, tail-stops, xIn, yIn}
 use Rattle.grammar.proofs.Instructions.{passed, some-bytes, forms-start}
 use Rattle.grammar.proofs.Place.{upTo, behind, upTo-length}
-use Rattle.grammar.proofs.Spelt.{Spelt, labels}
+use Rattle.grammar.proofs.Spelt.{Spelt}
 use Rattle.grammar.proofs.Known.{known-on, on-action, on-label, on-first, by-none, by-action, by-figure, by-label, by-labels, spells, next-is}
 use Rattle.written.specs.Promises.{tags, tagged}
 use Rattle.written.proofs.Decimal.{decimal-value}

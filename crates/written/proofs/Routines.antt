@@ -16,8 +16,6 @@ use Rattle.text.specs.Names.{same, placeFrom, placeOf, padded, actionOf, entrie
 use Rattle.text.specs.Writing.{namelessFrom}
 use Rattle.text.specs.Answers.{textWritten}
 use Rattle.grammar.proofs.Runs.{by-test}
-use Rattle.grammar.proofs.Follows.{right}
-use Rattle.grammar.proofs.Apart.{upto}
 use Rattle.written.specs.Promises.{Distinct, tags, tagged, labelNumbers, greater, InOrder, LabelsInOrder, RoutineBack}
 use Rattle.written.proofs.Numbered.{same-self, there, proper-some, proper-same, Given}
 use Rattle.written.proofs.Fields.{Ranged, inside, all-suited, faultless, no-tags, with-tags, by-letter}

@@ -10,7 +10,6 @@ use Rattle.rules.specs.Words.{ℕ, suc, _+_, Bool, true, false, cond, List, [],
 use Rattle.text.specs.declared.Sort.the-variants.{Digit}
 use Rattle.text.specs.Forms.{a, k, s, signsOf, letterIn, letterOf, Part, itself, name, number, partOf, xAt}
 use Rattle.text.specs.Names.{nameAt, digitsAt}
-use Rattle.text.specs.Reading.{named}
 use Rattle.text.specs.Grammar as grammar
 use Rattle.text.specs.Grammar.{All, Form, done, sign, numbered}
 use Rattle.grammar.proofs.Runs.{run-exact}
