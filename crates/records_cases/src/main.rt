@@ -34,7 +34,7 @@ fn verdict(tried: &[u8], verdict: Verdict) {
 fn refusal(verdict: Verdict) -> usize {
     match verdict {
         Verdict::Accepted(_) => 0,
-        Verdict::Refused(r) => listing::number_of(r),
+        Verdict::Refused(r) => refusals::number_of(r),
     }
 }
 

@@ -1,7 +1,7 @@
 // What the programs of cases print, as text in a lent buffer: each writer puts as much of its text as fits at the start of the part lent,
 // and answers how many bytes.
-use listing::number_of;
-use listing::place_of;
+use refusals::number_of;
+use refusals::place_of;
 use rules::Verdict;
 use words::put_instruction;
 use words::put_named;
