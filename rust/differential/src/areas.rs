@@ -247,11 +247,14 @@ fn compare_to_absolute(random: &mut Random) -> Result<Seen, String> {
     calls.compare(random, &relative, relative.len())
 }
 
+/// A call with a text or a routine, a list of names, and a buffer to fill.
+type Named<Answer> = fn(&[u8], &[u8], &mut [u8]) -> Answer;
+
 /// A call that fills one buffer with the help of a list of names.
 struct Naming {
-    library: fn(&[u8], &[u8], &mut [u8]) -> c::Verdict,
-    wrapper: fn(&[u8], &[u8], &mut [u8]) -> Result<usize, quadrilhel::Refusal>,
-    plain: fn(&[u8], &[u8], &mut [u8]) -> Result<usize, Refusal>,
+    library: Named<c::Verdict>,
+    wrapper: Named<Result<usize, quadrilhel::Refusal>>,
+    plain: Named<Result<usize, Refusal>>,
 }
 
 impl Naming {
