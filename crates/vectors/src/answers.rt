@@ -1,9 +1,9 @@
 // What a run answers, printed.
 use crate::print::named;
 use crate::print::word;
-use listing::number_of;
-use listing::place_of;
 use records::number;
+use refusals::number_of;
+use refusals::place_of;
 use rules::Outcome;
 use rules::Ran;
 use rules::Refusal;
