@@ -1,5 +1,7 @@
 #!/usr/bin/env python3
-"""Writes NAME.routine, as bytes, for each line of routines.txt; a line that names a base is written as it is named."""
+"""Writes NAME.routine, as bytes, for each line of routines.txt; a line that names a base is written as it is named.
+
+Writes names.list, sixteen bytes a name, for the lines of names.txt."""
 import re
 from pathlib import Path
 
@@ -61,3 +63,5 @@ if __name__ == "__main__":
         if line and not line.startswith("#"):
             name, text = line.split(":", 1)
             (HERE / (name if name.endswith(".base") else f"{name}.routine")).write_bytes(routine(text))
+    names = (HERE / "names.txt").read_text().split()
+    (HERE / "names.list").write_bytes(b"".join(name.encode("ascii").ljust(16, b"\0") for name in names))

@@ -11,7 +11,11 @@
  *     bytes 4-5   y, low byte first
  *     the others  zero
  *
- * Records and reply bytes are numbered from 1.
+ * Records, reply bytes and the bytes of a text are numbered from 1.
+ *
+ * A list of names is bytes too, sixteen to an entry: a name of 1 to 16 letters or
+ * digits, then zeros. Entry 1 names action 1, and so on to 999. An entry that is
+ * not so is allowed and is the name of nothing; of two alike the first counts.
  *
  * Every function takes any bytes whatever. Each pointer is followed by the
  * number of bytes it may use; where that is 0 the pointer is not followed. The
@@ -27,7 +31,8 @@
  *     qh_check_relative      1,024    qh_run_base            3,072
  *     qh_convert            52,224    qh_step_routine       54,272
  *     qh_to_relative         1,024    qh_step_base           3,072
- *     qh_to_absolute         1,024
+ *     qh_to_absolute         1,024    qh_read_text          14,336
+ *                                     qh_write_text         13,312
  *
  * A call that is refused says why by one of the numbers below and writes to no
  * lent buffer.
@@ -43,13 +48,17 @@ extern "C" {
 #endif
 
 /* Limits. A buffer of QH_BASE_BYTES has room for every base and relative base,
- * one of QH_LISTING_BYTES for every listing. */
+ * one of QH_LISTING_BYTES for every listing, one of QH_TEXT_BYTES for every text that
+ * is written. */
 #define QH_ROUTINE_RECORDS 512
 #define QH_BASE_RECORDS 4096
 #define QH_RECORD_BYTES 8
 #define QH_BASE_BYTES (QH_RECORD_BYTES * QH_BASE_RECORDS)
 #define QH_LISTING_BYTES (16 + 18 * QH_BASE_RECORDS)
 #define QH_STACK_ENTRIES 96
+#define QH_NAME_BYTES 16
+#define QH_NAMES 999
+#define QH_TEXT_BYTES (19 * QH_ROUTINE_RECORDS + 2 * (QH_ROUTINE_RECORDS - 1))
 
 /* Refusals, tried in the order 1, 2; then the lowest record with 3 or 4, 3 first
  * within it; then 5, 6, 7, 11, 8, 9, 10. */
@@ -68,8 +77,14 @@ enum qh_refusal {
     QH_ROOM = 8,    /* a lent buffer is too short; place 0 */
     QH_REPLY = 9,   /* a reply byte not 0 or 1; place: the first such byte */
     QH_STATE = 10,  /* a machine state that is not sound; place 0 */
-    QH_FAR = 11     /* relative to absolute gives a number above 9,999; place: the
+    QH_FAR = 11,    /* relative to absolute gives a number above 9,999; place: the
                        first such record */
+    QH_TEXT = 12,   /* not a text; place: the first byte that no text could have there,
+                       one past the end if it stops short */
+    QH_NAME = 13    /* an action's name that is not in the list, or a thousandth label;
+                       place: its first byte. Of a routine that is written: the first
+                       record whose action has no name in the list. Place 0: the list
+                       is no multiple of 16 bytes, or has more than 999 entries */
 };
 
 /* Why a run or a step stopped, tried in the order 1, 5, 2, 3, 4. */
@@ -85,7 +100,7 @@ enum qh_status {
 typedef struct qh_verdict {
     uint32_t refusal; /* an enum qh_refusal; 0 if accepted */
     uint32_t place;   /* where, 0 if accepted or of the whole */
-    uint32_t count;   /* records, or bytes of a listing; 0 if refused */
+    uint32_t count;   /* records, or bytes of a listing or text; 0 if refused */
 } qh_verdict;
 
 /* A machine state. Sound if at is at most the record count, depth at most 96,
@@ -141,6 +156,26 @@ qh_verdict qh_to_absolute(const uint8_t *relative, size_t relative_len,
  * no zero byte is put behind them. */
 qh_verdict qh_list(const uint8_t *routine, size_t routine_len,
                    uint8_t *text, size_t text_len);
+
+/* Reads a routine from the text that a desk types: refusals 13 at 0; then 12 and 13,
+ * whichever stands first in the text; then 2 and 8. No other: whether the routine
+ * is well built is for qh_check_routine. count: records. The first 8 * count bytes
+ * of out are the routine, the rest is as it was.
+ *
+ * Instructions are those of the notation, with names from the list for actions and
+ * any 1 to 16 letters or digits for labels, parted by `;`, with bytes 9, 10, 13 and
+ * 32 free around them; `!` is ##0. Labels are numbered as they come. */
+qh_verdict qh_read_text(const uint8_t *text, size_t text_len,
+                        const uint8_t *names, size_t names_len,
+                        uint8_t *out, size_t out_len);
+
+/* Writes a routine as text: refusals 1 to 4, 13 at 0, 13 and 8. count: the bytes of
+ * text written; the rest is as it was, and no zero byte is put behind them. Label x
+ * is written Lx. What qh_read_text made of a text, with a list of different names,
+ * is written and, read again, gives the same records. */
+qh_verdict qh_write_text(const uint8_t *routine, size_t routine_len,
+                         const uint8_t *names, size_t names_len,
+                         uint8_t *text, size_t text_len);
 
 /* Runs a routine from its start for at most budget steps: refusals 1 to 7 and 9.
  * Each outside action uses one reply (0 no, 1 yes) and puts its number into the

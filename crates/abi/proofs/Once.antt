@@ -7,6 +7,8 @@ use Rattle.abi.proofs.qh_check_base.Reads as check-base
 use Rattle.abi.proofs.qh_check_relative.Reads as check-relative
 use Rattle.abi.proofs.qh_convert.Reads as convert
 use Rattle.abi.proofs.qh_list.Reads as list
+use Rattle.abi.proofs.qh_read_text.Reads as read-text
+use Rattle.abi.proofs.qh_write_text.Reads as write-text
 use Rattle.abi.proofs.qh_to_relative.Reads as to-relative
 use Rattle.abi.proofs.qh_to_absolute.Reads as to-absolute
 use Rattle.abi.proofs.qh_run_routine.Reads as run-routine
@@ -47,3 +49,9 @@ convert-once κs a r r′ e e′ p q = (cc, cc, cc)
 
 list-once : (κs : _) (a : _) (r r′ : _) (e e′ : _) → list.Learnt κs a r e → list.Learnt κs a r′ e′ → (r ≡ r′) × (now (e .1 .0) ≡ now (e′ .1 .0))
 list-once κs a r r′ e e′ p q = (cc, cc)
+
+read-text-once : (κs : _) (a : _) (r r′ : _) (e e′ : _) → read-text.Learnt κs a r e → read-text.Learnt κs a r′ e′ → (r ≡ r′) × (now (e .1 .1 .0) ≡ now (e′ .1 .1 .0))
+read-text-once κs a r r′ e e′ p q = (cc, cc)
+
+write-text-once : (κs : _) (a : _) (r r′ : _) (e e′ : _) → write-text.Learnt κs a r e → write-text.Learnt κs a r′ e′ → (r ≡ r′) × (now (e .1 .1 .0) ≡ now (e′ .1 .1 .0))
+write-text-once κs a r r′ e e′ p q = (cc, cc)

@@ -14,6 +14,10 @@ use Rattle.rules.specs.Run.{statusNumber}
 use Rattle.rules.specs.Answers.{filled, cleared, baseRecords, converting, Call}
 use Rattle.listing.specs.Text.{textOf}
 use Rattle.listing.specs.Answers.{listingOf, printed}
+use Rattle.text.specs.declared.TextRefusal.{TextRefusal}
+use Rattle.text.specs.declared.TextVerdict.{TextVerdict}
+use Rattle.text.specs.declared.TextVerdict.the-variants as typed
+use Rattle.text.specs.Answers as text
 use Rattle.abi.specs.declared.QhVerdict.{QhVerdict}
 use Rattle.abi.specs.declared.QhState.{QhState}
 use Rattle.abi.specs.declared.QhRan.{QhRan}
@@ -26,6 +30,14 @@ in32 n = cond (leb n 4294967295) n 4294967295
 unfoldable pub verdictTold : Verdict → QhVerdict
 verdictTold (Accepted n) = record { refusal = 0; place = 0; count = in32 n }
 verdictTold (Refused r) = record { refusal = in32 (told r .number); place = in32 (told r .place); count = 0 }
+
+-- 12, 13, or one of the paper's.
+unfoldable pub textRefusalTold : TextRefusal → QhVerdict
+textRefusalTold r = record { refusal = in32 (text.told r .number); place = in32 (text.told r .place); count = 0 }
+
+unfoldable pub textTold : TextVerdict → QhVerdict
+textTold (typed.Done n) = record { refusal = 0; place = 0; count = in32 n }
+textTold (typed.Refused r) = textRefusalTold r
 
 unfoldable pub stateTold : State → QhState
 stateTold m = record { at = in32 (m .at); depth = in32 (m .stack .depth); entries = m .stack .entries }
@@ -74,3 +86,8 @@ pub record Calls (c : Call) (answer : QhRan) (log′ : List ℕ) : Type 0 where
 pub record Lists (s text : List ℕ) (answer : QhVerdict) (text′ : List ℕ) : Type 0 where
   pub answers : answer ≡ verdictTold (listingOf s text)
   pub output : text′ ≡ printed (listingOf s text) (textOf s) text
+
+-- The verdict v on a call that writes the bytes u.
+pub record Types (v : TextVerdict) (u out : List ℕ) (answer : QhVerdict) (out′ : List ℕ) : Type 0 where
+  pub answers : answer ≡ textTold v
+  pub output : out′ ≡ text.filled v u out

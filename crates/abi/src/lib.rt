@@ -8,12 +8,15 @@ use rules::Stack;
 use rules::State;
 use rules::Status;
 use rules::Verdict;
+use text::TextRefusal;
+use text::TextVerdict;
 ghost use mathlib.Core.Path.{_≡_};
 ghost use Rattle.rules.specs.Run.{statusNumber};
 ghost use Rattle.rules.specs.Record.{records};
 ghost use Rattle.rules.specs.Relative.{toRelative, toAbsolute};
 ghost use Rattle.rules.specs.Answers.{checkRecords, checkRoutine, relating, absoluting, runRoutine, runBase, stepRoutine, stepBase};
-ghost use Rattle.abi.specs.Exported.{in32, verdictTold, stateTold, stateGiven, ranTold, Converts, Translates, Calls, Lists};
+ghost use Rattle.text.specs.Answers.{reading, writing, bytesRead, textWritten};
+ghost use Rattle.abi.specs.Exported.{in32, verdictTold, textRefusalTold, textTold, stateTold, stateGiven, ranTold, Converts, Translates, Calls, Lists, Types};
 
 #[repr(C)]
 pub struct QhVerdict {
@@ -76,6 +79,33 @@ fn tell_verdict(verdict: Verdict) -> QhVerdict
             place: in_32(place_of(r)),
             count: 0,
         },
+    }
+}
+
+fn tell_text_refusal(refusal: TextRefusal) -> QhVerdict
+    ensures { λ r. ⌜ r ≡ textRefusalTold refusal ⌝ }
+{
+    match refusal {
+        TextRefusal::Text(p) => QhVerdict {
+            refusal: 12,
+            place: in_32(p),
+            count: 0,
+        },
+        TextRefusal::Name(p) => QhVerdict {
+            refusal: 13,
+            place: in_32(p),
+            count: 0,
+        },
+        TextRefusal::Earlier(r) => tell_verdict(Verdict::Refused(r)),
+    }
+}
+
+fn tell_text(verdict: TextVerdict) -> QhVerdict
+    ensures { λ r. ⌜ r ≡ textTold verdict ⌝ }
+{
+    match verdict {
+        TextVerdict::Done(n) => tell_verdict(Verdict::Accepted(n)),
+        TextVerdict::Refused(r) => tell_text_refusal(r),
     }
 }
 
@@ -228,4 +258,20 @@ pub extern "C" fn qh_list(routine: &[u8], text: &mut [u8]) -> QhVerdict
     ensures { λ r. ⌜ Lists (now (routine .entry)) (now (text .entry)) r (now (text .exit)) ⌝ }
 {
     tell_verdict(listing::list(routine, text))
+}
+
+// A typed routine read to its records.
+#[no_mangle]
+pub extern "C" fn qh_read_text(text: &[u8], names: &[u8], out: &mut [u8]) -> QhVerdict
+    ensures { λ r. ⌜ Types (reading (now (text .entry)) (now (names .entry)) (now (out .entry))) (bytesRead (now (text .entry)) (now (names .entry))) (now (out .entry)) r (now (out .exit)) ⌝ }
+{
+    tell_text(reader::read_text(text, names, out))
+}
+
+// A routine written as text.
+#[no_mangle]
+pub extern "C" fn qh_write_text(routine: &[u8], names: &[u8], text: &mut [u8]) -> QhVerdict
+    ensures { λ r. ⌜ Types (writing (now (routine .entry)) (now (names .entry)) (now (text .entry))) (textWritten (now (routine .entry)) (now (names .entry))) (now (text .entry)) r (now (text .exit)) ⌝ }
+{
+    tell_text(writer::write_text(routine, names, text))
 }

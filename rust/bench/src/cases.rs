@@ -2,8 +2,11 @@
 
 use std::hint::black_box;
 
-use ordinary::{bytes_of, Record, BASE_LIMIT, RECORD};
-use shapes::{base_of, calls_and_a_return, grown_to_the_limit, nested, repeated, seq};
+use ordinary::{bytes_of, Record, BASE_LIMIT, RECORD, ROUTINE_LIMIT};
+use quadrilhel::TEXT_BYTES;
+use shapes::{
+    base_of, calls_and_a_return, grown_to_the_limit, most_names, named, nested, repeated, seq,
+};
 
 /// Steps of a long run.
 const LONG: u64 = 100_000;
@@ -40,6 +43,16 @@ enum Job {
         out: Vec<u8>,
         work: Vec<u8>,
     },
+    Read {
+        text: Vec<u8>,
+        names: Vec<u8>,
+        out: Vec<u8>,
+    },
+    Write {
+        routine: Vec<u8>,
+        names: Vec<u8>,
+        text: Vec<u8>,
+    },
     Run {
         program: Vec<u8>,
         is_routine: bool,
@@ -63,6 +76,7 @@ pub fn all_cases() -> Vec<Case> {
         Job::Check(bytes_of(&repeated("a1", 512))),
     )];
     cases.extend(conversions());
+    cases.extend(texts());
     cases.extend(long_runs());
     cases.extend(short_runs());
     cases
@@ -88,6 +102,29 @@ fn conversions() -> Vec<Case> {
         grown("convert-128", 128),
         grown("convert-256", 256),
         grown("convert-512", 512),
+    ]
+}
+
+/// A routine of every kind that is typed, and the text that is written of it.
+fn texts() -> Vec<Case> {
+    let routine = bytes_of(&named());
+    let names = most_names();
+    let mut text = vec![0; TEXT_BYTES];
+    let count = ordinary::write_text(&routine, &names, &mut text).unwrap_or(0);
+    let reading = Job::Read {
+        text: text[..count].to_vec(),
+        names: names.clone(),
+        out: vec![0; RECORD * ROUTINE_LIMIT],
+    };
+    let what = "512 instructions, 999 names";
+    let writing = Job::Write {
+        routine,
+        names,
+        text,
+    };
+    vec![
+        case("read-512", what, reading),
+        case("write-512", what, writing),
     ]
 }
 
@@ -186,6 +223,8 @@ impl Case {
         match (proved, &self.job) {
             (Some(count), Job::Check(_)) => Ok(format!("{count} records checked")),
             (Some(count), Job::Convert { .. }) => Ok(format!("{count} records written")),
+            (Some(count), Job::Read { .. }) => Ok(format!("{count} records read")),
+            (Some(count), Job::Write { .. }) => Ok(format!("{count} bytes written")),
             (Some(1), _) => Ok("1 step".to_string()),
             (Some(count), _) => Ok(format!("{count} steps")),
             (None, _) => Err(format!("{}: refused", self.name)),
@@ -194,7 +233,8 @@ impl Case {
 }
 
 impl Job {
-    /// Records checked or converted, or steps taken; nothing if refused.
+    /// Records checked, converted or read, bytes of text written, or steps taken;
+    /// nothing if refused.
     fn call(&mut self, side: Side) -> Option<u64> {
         match side {
             Side::Proved => self.proved(),
@@ -204,10 +244,19 @@ impl Job {
 
     /// The library's own functions, without the wrapper's names for their numbers.
     fn proved(&mut self) -> Option<u64> {
-        use quadrilhel::c::{check_routine, convert, run_base, run_routine, step_routine, State};
+        use quadrilhel::c::{
+            check_routine, convert, read_text, run_base, run_routine, step_routine, write_text,
+            State,
+        };
         match self {
             Job::Check(routine) => counted(check_routine(black_box(routine))),
             Job::Convert { routine, out, work } => counted(convert(black_box(routine), out, work)),
+            Job::Read { text, names, out } => counted(read_text(black_box(text), names, out)),
+            Job::Write {
+                routine,
+                names,
+                text,
+            } => counted(write_text(black_box(routine), names, text)),
             Job::Run {
                 program,
                 is_routine,
@@ -234,12 +283,21 @@ impl Job {
     }
 
     fn ordinary(&mut self) -> Option<u64> {
-        use ordinary::{check_routine, convert, run_base, run_routine, step_routine, State};
+        use ordinary::{
+            check_routine, convert, read_text, run_base, run_routine, step_routine, write_text,
+            State,
+        };
         match self {
             Job::Check(routine) => check_routine(black_box(routine)).ok().map(wide),
             Job::Convert { routine, out, work } => {
                 convert(black_box(routine), out, work).ok().map(wide)
             }
+            Job::Read { text, names, out } => read_text(black_box(text), names, out).ok().map(wide),
+            Job::Write {
+                routine,
+                names,
+                text,
+            } => write_text(black_box(routine), names, text).ok().map(wide),
             Job::Run {
                 program,
                 is_routine,
@@ -283,6 +341,9 @@ mod tests {
         let mut names = BTreeSet::new();
         for mut case in all_cases() {
             let done = case.agreed().expect("accepted by both sides");
+            if case.name == "read-512" {
+                assert_eq!(done, "512 records read");
+            }
             let steps = match &case.job {
                 Job::Run { budget, .. } => Some(*budget),
                 _ => None,

@@ -1,6 +1,6 @@
 //! One comparison for each call of the library.
 
-use ordinary::{converted_length, records_of, Refusal, State, BASE_LIMIT, RECORD};
+use ordinary::{converted_length, records_of, Refusal, State, BASE_LIMIT, RECORD, ROUTINE_LIMIT};
 use quadrilhel::c;
 
 use crate::lent::{size_around, Lent};
@@ -8,8 +8,10 @@ use crate::machines;
 use crate::programs::{any_base, any_relative, any_routine, sound_routine};
 use crate::random::Random;
 use crate::same::{
-    library_state, of_plain, of_wrapper, ran, same, same_bytes, verdict, with_program, Seen,
+    library_state, of_plain, of_wrapper, ran, same, same_bytes, verdict, with_program, with_text,
+    Seen,
 };
+use crate::texts::{any_list, any_named_routine, any_text};
 
 /// A call of the library and how to compare it once.
 pub struct Area {
@@ -33,7 +35,7 @@ const NO_STATUS: &[u32] = &[];
 const ANY_STATUS: &[u32] = &[1, 2, 3, 4, 5];
 
 /// Every call of the library, and the routine against its own base.
-pub const AREAS: [Area; 9] = [
+pub const AREAS: [Area; 11] = [
     Area {
         name: "convert",
         cases: 300_000,
@@ -96,6 +98,20 @@ pub const AREAS: [Area; 9] = [
         compare_once: compare_routine_with_its_base,
         refusals: &[7],
         statuses: &[1, 2, 3, 4],
+    },
+    Area {
+        name: "read_text",
+        cases: 200_000,
+        compare_once: compare_read_text,
+        refusals: &[2, 8, 12, 13],
+        statuses: NO_STATUS,
+    },
+    Area {
+        name: "write_text",
+        cases: 100_000,
+        compare_once: compare_write_text,
+        refusals: &[1, 2, 3, 4, 8, 13],
+        statuses: NO_STATUS,
     },
 ];
 
@@ -229,6 +245,97 @@ fn compare_to_absolute(random: &mut Random) -> Result<Seen, String> {
     })
     .map_err(|error| with_program(error, &relative))?;
     calls.compare(random, &relative, relative.len())
+}
+
+/// A call with a text or a routine, a list of names, and a buffer to fill.
+type Named<Answer> = fn(&[u8], &[u8], &mut [u8]) -> Answer;
+
+/// A call that fills one buffer with the help of a list of names.
+struct Naming {
+    library: Named<c::Verdict>,
+    wrapper: Named<Result<usize, quadrilhel::Refusal>>,
+    plain: Named<Result<usize, Refusal>>,
+}
+
+impl Naming {
+    fn alike(&self, given: &[u8], names: &[u8], out: &Lent) -> Result<Seen, String> {
+        let (mut library_out, mut plain_out) = (out.clone(), out.clone());
+        let plain = (self.plain)(given, names, plain_out.part());
+        let library = (self.library)(given, names, library_out.part());
+        same("answer", library, verdict(plain))?;
+        same_bytes("output", &library_out, &plain_out)?;
+        let mut safe_out = out.clone();
+        let safe = (self.wrapper)(given, names, safe_out.part());
+        same("the wrapper's answer", of_wrapper(safe), of_plain(plain))?;
+        same_bytes("the wrapper's output", &safe_out, &plain_out)?;
+        Ok(Seen::verdict(library))
+    }
+}
+
+/// The bytes that a call needs to fill, if it has room for any that it may.
+fn room_for(most: usize, call: impl FnOnce(&mut [u8]) -> Result<usize, Refusal>) -> usize {
+    call(&mut vec![0; most]).unwrap_or(0)
+}
+
+fn compare_read_text(random: &mut Random) -> Result<Seen, String> {
+    let calls = Naming {
+        library: c::read_text,
+        wrapper: quadrilhel::read_text,
+        plain: ordinary::read_text,
+    };
+    let names = any_list(random);
+    let text = any_text(random, &names);
+    let read = |out: &mut [u8]| ordinary::read_text(&text, &names, out);
+    let needed = RECORD * room_for(RECORD * ROUTINE_LIMIT, read);
+    let size = size_around(random, needed);
+    let out = Lent::new(random, size);
+    calls
+        .alike(&text, &names, &out)
+        .map_err(|error| with_text(error, &text, &names))
+}
+
+/// What is written is then read, written and read again.
+fn compare_write_text(random: &mut Random) -> Result<Seen, String> {
+    let calls = Naming {
+        library: c::write_text,
+        wrapper: quadrilhel::write_text,
+        plain: ordinary::write_text,
+    };
+    let names = any_list(random);
+    let routine = any_named_routine(random, &names);
+    let write = |out: &mut [u8]| ordinary::write_text(&routine, &names, out);
+    let needed = room_for(quadrilhel::TEXT_BYTES, write);
+    let size = size_around(random, needed);
+    let out = Lent::new(random, size);
+    calls
+        .alike(&routine, &names, &out)
+        .and_then(|seen| {
+            if seen.refusal == 0 {
+                reads_back(&routine, &names)?;
+            }
+            Ok(seen)
+        })
+        .map_err(|error| with_text(with_program(error, &routine), b"", &names))
+}
+
+/// "Writing what the reader produced and reading it again gives the same records":
+/// here the library is held against itself.
+fn reads_back(routine: &[u8], names: &[u8]) -> Result<(), String> {
+    let produced = written_and_read(routine, names)?;
+    let again = written_and_read(&produced, names)?;
+    same("what was read, written and read again", again, produced)
+}
+
+/// What the library reads in the text that it writes of a routine.
+fn written_and_read(routine: &[u8], names: &[u8]) -> Result<Vec<u8>, String> {
+    let mut text = vec![0; quadrilhel::TEXT_BYTES];
+    let count = quadrilhel::write_text(routine, names, &mut text)
+        .map_err(|why| format!("what was written before is not now: {why}"))?;
+    let mut read = vec![0; routine.len()];
+    let records = quadrilhel::read_text(&text[..count], names, &mut read)
+        .map_err(|why| format!("what was written is not read: {why}"))?;
+    same("records read", RECORD * records, routine.len())?;
+    Ok(read)
 }
 
 /// A call with a program, replies, a log and, last, a budget or a state.

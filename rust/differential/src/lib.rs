@@ -15,3 +15,4 @@ pub mod programs;
 pub mod random;
 pub mod routines;
 pub mod same;
+pub mod texts;

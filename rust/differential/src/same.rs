@@ -129,3 +129,15 @@ pub fn with_program(error: String, program: &[u8]) -> String {
         written(shown)
     )
 }
+
+/// Adds a text and a list of names to an error.
+pub fn with_text(error: String, text: &[u8], names: &[u8]) -> String {
+    let shown = |bytes: &[u8]| bytes[..bytes.len().min(480)].escape_ascii().to_string();
+    format!(
+        "{error}\n  text of {} bytes: {}\n  names, {} bytes: {}",
+        text.len(),
+        shown(text),
+        names.len(),
+        shown(names)
+    )
+}

@@ -3,6 +3,7 @@
 //! Deterministic. `DIFFERENTIAL_SEED` sets another seed and `DIFFERENTIAL_TIMES`
 //! multiplies the number of inputs, for a longer search.
 
+use std::collections::{BTreeMap, BTreeSet};
 use std::env;
 use std::process::ExitCode;
 use std::time::Instant;
@@ -11,10 +12,14 @@ use differential::areas::{Area, AREAS};
 use differential::random::Random;
 
 /// How often each refusal (0 for none) and each status turned up in an area.
-#[derive(Clone, Copy, Default)]
+#[derive(Default)]
 struct Tally {
-    refusals: [u64; 12],
-    statuses: [u64; 6],
+    refusals: BTreeMap<u32, u64>,
+    statuses: BTreeMap<u32, u64>,
+}
+
+fn count_of(counts: &BTreeMap<u32, u64>, number: u32) -> u64 {
+    counts.get(&number).copied().unwrap_or(0)
 }
 
 fn main() -> ExitCode {
@@ -31,7 +36,10 @@ fn main() -> ExitCode {
     }
     print_refusals(&tallies);
     print_statuses(&tallies);
-    let inputs: u64 = tallies.iter().flat_map(|tally| tally.refusals).sum();
+    let inputs: u64 = tallies
+        .iter()
+        .flat_map(|tally| tally.refusals.values())
+        .sum();
     let seconds = started.elapsed().as_secs_f64();
     println!(
         "\n{inputs} inputs in {seconds:.1} s, {} differences",
@@ -58,8 +66,8 @@ fn compare(area: &Area, index: u64, seed: u64, times: u64) -> (Tally, Option<Str
     for case in 0..area.cases * times {
         match (area.compare_once)(&mut Random::of_case(seed, index, case)) {
             Ok(seen) => {
-                tally.refusals[seen.refusal as usize] += 1;
-                tally.statuses[seen.status as usize] += 1;
+                *tally.refusals.entry(seen.refusal).or_default() += 1;
+                *tally.statuses.entry(seen.status).or_default() += 1;
             }
             Err(error) => {
                 let fault = format!("{}, case {case}: {error}", area.name);
@@ -72,13 +80,13 @@ fn compare(area: &Area, index: u64, seed: u64, times: u64) -> (Tally, Option<Str
 
 /// A refusal or status that should have turned up and did not.
 fn not_met(area: &Area, tally: &Tally) -> Option<String> {
-    let missing = |wanted: &[u32], counts: &[u64]| -> Vec<u32> {
-        let absent = |&&number: &&u32| counts[number as usize] == 0;
+    let missing = |wanted: &[u32], counts: &BTreeMap<u32, u64>| -> Vec<u32> {
+        let absent = |&&number: &&u32| count_of(counts, number) == 0;
         wanted.iter().filter(absent).copied().collect()
     };
     let refusals = missing(area.refusals, &tally.refusals);
     let statuses = missing(area.statuses, &tally.statuses);
-    if refusals.is_empty() && statuses.is_empty() && tally.refusals[0] > 0 {
+    if refusals.is_empty() && statuses.is_empty() && count_of(&tally.refusals, 0) > 0 {
         return None;
     }
     Some(format!(
@@ -89,27 +97,30 @@ fn not_met(area: &Area, tally: &Tally) -> Option<String> {
 
 fn print_refusals(tallies: &[Tally]) {
     println!("\nby refusal (- where the call has none)\n");
-    let names = [
-        "accepted", "1", "2", "3", "4", "5", "6", "7", "8", "9", "10", "11",
-    ];
-    print_row("call", names.map(String::from));
+    let all: BTreeSet<u32> = AREAS
+        .iter()
+        .flat_map(|area| area.refusals)
+        .copied()
+        .collect();
+    let names = all.iter().map(u32::to_string);
+    print_row("call", ["accepted".to_string()].into_iter().chain(names));
     for (area, tally) in AREAS.iter().zip(tallies) {
-        let shown = |number: usize| {
-            let possible = number == 0 || area.refusals.contains(&(number as u32));
-            shown_count(possible, tally.refusals[number])
+        let shown = |&number: &u32| {
+            let possible = number == 0 || area.refusals.contains(&number);
+            shown_count(possible, count_of(&tally.refusals, number))
         };
-        print_row(area.name, std::array::from_fn::<_, 12, _>(shown));
+        print_row(area.name, [0].iter().chain(&all).map(shown));
     }
 }
 
 fn print_statuses(tallies: &[Tally]) {
     println!("\nby status\n");
     let names = ["1 ended", "2 reply", "3 log", "4 stack", "5 budget"];
-    print_row("call", names.map(String::from));
+    print_row("call", names.map(String::from).into_iter());
     let machines = AREAS.iter().zip(tallies);
     for (area, tally) in machines.filter(|(area, _)| !area.statuses.is_empty()) {
-        let shown = |number: usize| shown_count(true, tally.statuses[number + 1]);
-        print_row(area.name, std::array::from_fn::<_, 5, _>(shown));
+        let shown = |number| shown_count(true, count_of(&tally.statuses, number));
+        print_row(area.name, (1..=5).map(shown));
     }
 }
 
@@ -121,7 +132,7 @@ fn shown_count(possible: bool, count: u64) -> String {
     }
 }
 
-fn print_row<const N: usize>(name: &str, cells: [String; N]) {
-    let cells: Vec<String> = cells.iter().map(|cell| format!("{cell:>8}")).collect();
+fn print_row(name: &str, cells: impl Iterator<Item = String>) {
+    let cells: Vec<String> = cells.map(|cell| format!("{cell:>8}")).collect();
     println!("{name:16} {}", cells.join(" "));
 }

@@ -24,7 +24,7 @@ impl Fit {
 
 /// Checks 1 to 7 of a routine; answers its records.
 pub fn check_routine(bytes: &[u8]) -> Result<Vec<Record>, Refusal> {
-    let records = check_records(bytes, ROUTINE_LIMIT, fit_in_routine)?;
+    let records = routine_records(bytes)?;
     if let Some(place) = misfit(&records) {
         return Err(Refusal::at(Reason::Nesting, place));
     }
@@ -35,6 +35,11 @@ pub fn check_routine(bytes: &[u8]) -> Result<Vec<Record>, Refusal> {
         return Err(Refusal::whole(Reason::Growth));
     }
     Ok(records)
+}
+
+/// Checks 1 to 4 of a routine; answers its records.
+pub fn routine_records(bytes: &[u8]) -> Result<Vec<Record>, Refusal> {
+    check_records(bytes, ROUTINE_LIMIT, fit_in_routine)
 }
 
 /// Checks 1 to 4 of a base; answers its records.

@@ -1,8 +1,9 @@
 //! Settlement routines and their numbered base, in plain Rust.
 //!
-//! Written from the paper (document 01) alone, and from nothing of the proved
-//! code, so that the two can be held against each other. Sentences in quotation
-//! marks are the paper's. Everything is numbered from 1, as there.
+//! Written from the paper (document 01) and the requests after it (document 02)
+//! alone, and from nothing of the proved code, so that the two can be held
+//! against each other. Sentences in quotation marks are the paper's, or those of
+//! the request that is named. Everything is numbered from 1, as there.
 //!
 //! The converter counts once per stage: each stage is one pass that writes its
 //! records and notes where every first-level record went, and one pass that
@@ -21,6 +22,7 @@ mod refusal;
 mod relative;
 mod second_level;
 mod stages;
+mod text;
 
 pub use check::converted_length;
 pub use convert::convert;
@@ -29,6 +31,7 @@ pub use machine::{run_base, run_routine, step_base, step_routine, Ran, State, St
 pub use record::{bytes_of, kind, own, records_of, Record, RECORD};
 pub use refusal::{Reason, Refusal};
 pub use relative::{to_absolute, to_relative};
+pub use text::{name_list, read_text, write_text};
 
 /// "A routine has 0 to 512 records."
 pub const ROUTINE_LIMIT: usize = 512;

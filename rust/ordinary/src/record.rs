@@ -55,6 +55,9 @@ pub mod own {
     pub const COMPARE: u16 = 1_003;
 }
 
+/// A record as it is stored.
+pub(crate) type Stored = [u8; RECORD];
+
 /// What a record says: its kind and its two fields.
 #[derive(Clone, Copy, PartialEq, Eq, Debug)]
 pub struct Record {

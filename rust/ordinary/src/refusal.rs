@@ -1,6 +1,6 @@
 //! "What is turned away."
 
-/// The eleven reasons, under the paper's numbers.
+/// The reasons, under the numbers of the paper and of the requests after it.
 #[derive(Clone, Copy, PartialEq, Eq, Debug)]
 pub enum Reason {
     /// "Byte count no multiple of 8."
@@ -25,6 +25,10 @@ pub enum Reason {
     State = 10,
     /// "Relative to absolute gives a number above 9,999."
     Far = 11,
+    /// Of a text: "the first byte that no text could have there".
+    Text = 12,
+    /// "Unknown name or thousandth label", or a list of names that is none.
+    Name = 13,
 }
 
 /// A reason and its place, 0 where the paper gives none.

@@ -17,7 +17,7 @@ pub struct Verdict {
     pub refusal: u32,
     /// Its place.
     pub place: u32,
-    /// Records, or bytes of a listing; 0 if refused.
+    /// Records, or bytes of a listing or text; 0 if refused.
     pub count: u32,
 }
 
@@ -109,6 +109,22 @@ mod ffi {
             text: *mut u8,
             text_len: usize,
         ) -> Verdict;
+        pub fn qh_read_text(
+            text: *const u8,
+            text_len: usize,
+            names: *const u8,
+            names_len: usize,
+            out: *mut u8,
+            out_len: usize,
+        ) -> Verdict;
+        pub fn qh_write_text(
+            routine: *const u8,
+            routine_len: usize,
+            names: *const u8,
+            names_len: usize,
+            text: *mut u8,
+            text_len: usize,
+        ) -> Verdict;
     }
 }
 
@@ -118,6 +134,7 @@ mod ffi {
 
 type Check = unsafe extern "C" fn(*const u8, usize) -> Verdict;
 type Fill = unsafe extern "C" fn(*const u8, usize, *mut u8, usize) -> Verdict;
+type Named = unsafe extern "C" fn(*const u8, usize, *const u8, usize, *mut u8, usize) -> Verdict;
 type Machine<T> =
     unsafe extern "C" fn(*const u8, usize, *const u8, usize, *mut u8, usize, T) -> Ran;
 
@@ -129,6 +146,20 @@ fn check(call: Check, bytes: &[u8]) -> Verdict {
 fn fill(call: Fill, from: &[u8], out: &mut [u8]) -> Verdict {
     // SAFETY: see above.
     unsafe { call(from.as_ptr(), from.len(), out.as_mut_ptr(), out.len()) }
+}
+
+fn named(call: Named, from: &[u8], names: &[u8], out: &mut [u8]) -> Verdict {
+    // SAFETY: see above.
+    unsafe {
+        call(
+            from.as_ptr(),
+            from.len(),
+            names.as_ptr(),
+            names.len(),
+            out.as_mut_ptr(),
+            out.len(),
+        )
+    }
 }
 
 fn machine<T>(
@@ -195,6 +226,16 @@ pub fn to_absolute(relative: &[u8], out: &mut [u8]) -> Verdict {
 /// `qh_list`.
 pub fn list(routine: &[u8], text: &mut [u8]) -> Verdict {
     fill(ffi::qh_list, routine, text)
+}
+
+/// `qh_read_text`.
+pub fn read_text(text: &[u8], names: &[u8], out: &mut [u8]) -> Verdict {
+    named(ffi::qh_read_text, text, names, out)
+}
+
+/// `qh_write_text`.
+pub fn write_text(routine: &[u8], names: &[u8], text: &mut [u8]) -> Verdict {
+    named(ffi::qh_write_text, routine, names, text)
 }
 
 /// `qh_run_routine`.

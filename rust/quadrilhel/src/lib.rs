@@ -24,11 +24,13 @@ pub mod c;
 mod machine;
 mod needs;
 mod refusal;
+mod text;
 
 pub use c::State;
 pub use machine::{run_base, run_routine, step_base, step_routine, Ran, Status};
 pub use needs::STACK_NEEDS;
 pub use refusal::Refusal;
+pub use text::{as_text, read_text, typed, write_text, BadName, Mistyped, Names};
 
 /// Bytes in a record.
 pub const RECORD: usize = 8;
@@ -41,6 +43,14 @@ pub const BASE_BYTES: usize = RECORD * BASE_LIMIT;
 /// A buffer of this many bytes has room for every listing: its first line is at
 /// most `length 512 4096`, and no other is longer than `4096 -topeq(512)`.
 pub const LISTING_BYTES: usize = 16 + 18 * BASE_LIMIT;
+
+/// Bytes in an entry of a list of names, and the longest that a name may be.
+pub const NAME_BYTES: usize = 16;
+/// The most entries that a list of names may have.
+pub const NAME_LIMIT: usize = 999;
+/// A buffer of this many bytes has room for every text that is written: `; ` between
+/// two, and no instruction is longer than a sign, a name of 16 and `{*`.
+pub const TEXT_BYTES: usize = 19 * ROUTINE_LIMIT + 2 * (ROUTINE_LIMIT - 1);
 
 /// Checks a routine (refusals 1 to 7) and answers how many records it has.
 pub fn check_routine(routine: &[u8]) -> Result<usize, Refusal> {

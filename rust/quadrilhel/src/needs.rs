@@ -6,7 +6,7 @@
 ///
 /// Measured, not proved: `cargo run --release -p stack` measures, on the deepest and
 /// longest inputs there are, and a test there fails if one of these does not suffice.
-pub const STACK_NEEDS: [(&str, usize); 11] = [
+pub const STACK_NEEDS: [(&str, usize); 13] = [
     ("qh_check_routine", 51_200),
     ("qh_check_base", 1_024),
     ("qh_check_relative", 1_024),
@@ -14,6 +14,8 @@ pub const STACK_NEEDS: [(&str, usize); 11] = [
     ("qh_to_relative", 1_024),
     ("qh_to_absolute", 1_024),
     ("qh_list", 196_608),
+    ("qh_read_text", 14_336),
+    ("qh_write_text", 13_312),
     ("qh_run_routine", 53_248),
     ("qh_run_base", 3_072),
     ("qh_step_routine", 54_272),

@@ -3,7 +3,8 @@
 use std::error::Error;
 use std::fmt;
 
-/// Why a call was turned away. Records and reply bytes are numbered from 1.
+/// Why a call was turned away. Records, reply bytes and the bytes of a text are
+/// numbered from 1.
 #[derive(Clone, Copy, PartialEq, Eq, Hash, Debug)]
 pub enum Refusal {
     /// 1: the byte count is no multiple of 8.
@@ -46,6 +47,24 @@ pub enum Refusal {
         /// The first such record.
         record: u32,
     },
+    /// 12: not a text.
+    Text {
+        /// The first byte that no text could have there, one past the end if it stops
+        /// short.
+        byte: u32,
+    },
+    /// 13 at 0: a list of names that is ragged or has more than 999 entries.
+    Names,
+    /// 13, of a text: a name that is not in the list, or a thousandth label.
+    Name {
+        /// Its first byte.
+        byte: u32,
+    },
+    /// 13, of a routine to be written: an action without a proper name in the list.
+    Unnamed {
+        /// The first such record.
+        record: u32,
+    },
     /// An answer that this crate has no name for, given as the library gave it.
     /// It means that the crate and the library were built from different trees.
     Unknown {
@@ -73,6 +92,9 @@ impl Refusal {
             9 => Refusal::Reply { byte: place },
             10 => Refusal::State,
             11 => Refusal::Far { record },
+            12 => Refusal::Text { byte: place },
+            13 if place == 0 => Refusal::Names,
+            13 => Refusal::Name { byte: place },
             _ => Refusal::Unknown { number, place },
         })
     }
@@ -91,21 +113,29 @@ impl Refusal {
             Refusal::Reply { .. } => 9,
             Refusal::State => 10,
             Refusal::Far { .. } => 11,
+            Refusal::Text { .. } => 12,
+            Refusal::Names | Refusal::Name { .. } | Refusal::Unnamed { .. } => 13,
             Refusal::Unknown { number, .. } => number,
         }
     }
 
-    /// The paper's place: a record's or reply byte's number, or 0.
+    /// The paper's place: the number of a record, a reply byte or a text's byte, or 0.
     pub fn place(self) -> u32 {
         match self {
             Refusal::Kind { record }
             | Refusal::Field { record }
             | Refusal::Nesting { record }
             | Refusal::Skip { record }
-            | Refusal::Far { record } => record,
-            Refusal::Reply { byte } => byte,
+            | Refusal::Far { record }
+            | Refusal::Unnamed { record } => record,
+            Refusal::Reply { byte } | Refusal::Text { byte } | Refusal::Name { byte } => byte,
             Refusal::Unknown { place, .. } => place,
-            Refusal::Ragged | Refusal::Long | Refusal::Growth | Refusal::Room | Refusal::State => 0,
+            Refusal::Ragged
+            | Refusal::Long
+            | Refusal::Growth
+            | Refusal::Room
+            | Refusal::State
+            | Refusal::Names => 0,
         }
     }
 }
@@ -155,8 +185,9 @@ impl fmt::Display for Refusal {
             ),
             Refusal::Room => f.write_str(
                 "a lent buffer is too short: output and working buffer each need eight bytes \
-                 for every converted record (32,768 are always enough), a listing one for each \
-                 of its bytes",
+                 for every converted record (32,768 are always enough), a routine read from \
+                 text eight for every instruction (4,096), a listing or text one for each of \
+                 its bytes",
             ),
             Refusal::Reply { byte } => write!(
                 f,
@@ -172,6 +203,28 @@ impl fmt::Display for Refusal {
                 f,
                 "the forward jump at record {record} leads past 9,999, the greatest number that \
                  an absolute jump can hold: shorten it, or use stop"
+            ),
+            Refusal::Text { byte } => write!(
+                f,
+                "no text could have what stands at byte {byte}, or the text ends there too \
+                 early: look for a letter too many, a blank inside an instruction, a bracket \
+                 or number left out, a name longer than 16 or a number longer than 4 digits, \
+                 or a `;` that does not stand between two instructions"
+            ),
+            Refusal::Names => f.write_str(
+                "the list of names is no list: it needs 16 bytes for each name, the rest of \
+                 them zero, and may have 999 names",
+            ),
+            Refusal::Name { byte } => write!(
+                f,
+                "the name at byte {byte} is not in the list of names, or it is the thousandth \
+                 label: correct its spelling (capitals count) or add it to the list; a routine \
+                 has at most 999 labels"
+            ),
+            Refusal::Unnamed { record } => write!(
+                f,
+                "the action of record {record} has no proper name in the list of names: give \
+                 the list an entry of 1 to 16 letters or digits at the action's number"
             ),
             Refusal::Unknown { number, place } => write!(
                 f,
@@ -190,21 +243,28 @@ mod tests {
 
     #[test]
     fn numbers_and_places_come_back() {
-        for number in 1..=12 {
+        for number in (1..=13).chain([99]) {
             let refusal = Refusal::from_numbers(number, 7).expect("not 0");
             assert_eq!(refusal.number(), number);
             let has_place = ![1, 2, 7, 8, 10].contains(&number);
             assert_eq!(refusal.place(), if has_place { 7 } else { 0 });
         }
         assert_eq!(Refusal::from_numbers(0, 0), None);
+        assert_eq!(Refusal::from_numbers(13, 0), Some(Refusal::Names));
+        assert_eq!((Refusal::Names.number(), Refusal::Names.place()), (13, 0));
+        let unnamed = Refusal::Unnamed { record: 7 };
+        assert_eq!((unnamed.number(), unnamed.place()), (13, 7));
     }
 
     #[test]
     fn every_refusal_says_what_to_do() {
-        for number in 1..=12 {
-            let text = Refusal::from_numbers(number, 31)
-                .expect("not 0")
-                .to_string();
+        let mut all: Vec<Refusal> = (1..=13)
+            .chain([99])
+            .filter_map(|number| Refusal::from_numbers(number, 31))
+            .collect();
+        all.extend([Refusal::Names, Refusal::Unnamed { record: 31 }]);
+        for refusal in all {
+            let text = refusal.to_string();
             assert!(text.len() > 40, "{text}");
             assert!(!text.contains("  "), "{text}");
         }

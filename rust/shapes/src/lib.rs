@@ -2,7 +2,7 @@
 
 #![forbid(unsafe_code)]
 
-use ordinary::{bytes_of, kind, notation, Record, BASE_LIMIT, RECORD};
+use ordinary::{bytes_of, kind, name_list, notation, Record, BASE_LIMIT, RECORD};
 
 /// The records of a sequence in the paper's written form; none if it is not one.
 pub fn seq(text: &str) -> Vec<Record> {
@@ -39,6 +39,35 @@ pub fn grown_to_the_limit() -> Vec<Record> {
     routine[101] = Record::new(kind::RETURN, 0, 0);
     routine[309] = Record::new(kind::RETURN, 0, 0);
     routine
+}
+
+/// 512 records of every kind, to be typed: actions from 1 to 999 spread over the list
+/// of names, and 60 labels with gotos.
+pub fn named() -> Vec<Record> {
+    let action = |at: usize| 1 + (at * 389 % 999) as u16;
+    let label = |at: usize| 1 + (at / 8 % 60) as u16;
+    let record = |at: usize| match at % 8 {
+        0 => Record::new(kind::YES_BLOCK, action(at), 0),
+        1 => Record::new(kind::ACTION, action(at), 0),
+        2 => Record::new(kind::LABEL, label(at), 0),
+        3 => Record::new(kind::SEPARATOR, 0, 0),
+        4 => Record::new(kind::CHAINED_GOTO, label(at), 1 + label(at) % 60),
+        5 => Record::new(kind::END, 0, 0),
+        6 => Record::new(kind::NO_TEST, action(at), 0),
+        _ => Record::new(kind::JUMP, (at % 513) as u16, 0),
+    };
+    (0..512).map(record).collect()
+}
+
+/// A full list of names, of 3 to 14 letters and digits.
+pub fn most_names() -> Vec<u8> {
+    let name = |number: usize| match number % 3 {
+        0 => format!("a{number:02}"),
+        1 => format!("settle{number}"),
+        _ => format!("takeReading{number}"),
+    };
+    let names: Vec<String> = (1..=999).map(name).collect();
+    name_list(&names.iter().map(String::as_str).collect::<Vec<_>>())
 }
 
 /// The base of a routine, by plain Rust; none if it is refused.

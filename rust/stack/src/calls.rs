@@ -3,8 +3,9 @@
 use std::hint::black_box;
 
 use quadrilhel::{c, State, BASE_BYTES, LISTING_BYTES, RECORD};
+use shapes::most_names;
 
-use crate::inputs::{bases, relative_bases, routines, Input};
+use crate::inputs::{bases, relative_bases, routines, texts, Input};
 
 /// Steps of a run: more than the longest file has records.
 const STEPS: u64 = 5_000;
@@ -25,6 +26,7 @@ struct Lent {
     replies: [Vec<u8>; 3],
     log: Vec<u8>,
     states: Vec<State>,
+    names: Vec<u8>,
 }
 
 impl Lent {
@@ -37,6 +39,7 @@ impl Lent {
             replies: [vec![0; steps], vec![1; steps], turns],
             log: vec![0; 2 * steps],
             states: states(records),
+            names: most_names(),
         }
     }
 
@@ -97,7 +100,7 @@ impl Call {
 }
 
 /// Every exported call.
-pub const CALLS: [Call; 11] = [
+pub const CALLS: [Call; 13] = [
     Call::new("qh_check_routine", routines, |routine, _| {
         seen(c::check_routine(routine));
     }),
@@ -118,6 +121,12 @@ pub const CALLS: [Call; 11] = [
     }),
     Call::new("qh_list", routines, |routine, lent| {
         seen(c::list(routine, &mut lent.out));
+    }),
+    Call::new("qh_read_text", texts, |text, lent| {
+        seen(c::read_text(text, &lent.names, &mut lent.out));
+    }),
+    Call::new("qh_write_text", routines, |routine, lent| {
+        seen(c::write_text(routine, &lent.names, &mut lent.out));
     }),
     Call::new("qh_run_routine", routines, |routine, lent| {
         lent.runs(c::run_routine, routine);

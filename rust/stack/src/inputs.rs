@@ -3,8 +3,11 @@
 
 use differential::programs::{any_base, any_relative, any_routine};
 use differential::random::Random;
+use differential::texts::any_text;
 use ordinary::{bytes_of, Record, BASE_LIMIT, RECORD};
-use shapes::{base_of, calls_and_a_return, grown_to_the_limit, nested, repeated, seq};
+use shapes::{
+    base_of, calls_and_a_return, grown_to_the_limit, most_names, named, nested, repeated, seq,
+};
 
 /// How many by chance.
 const BY_CHANCE: u64 = 150;
@@ -43,9 +46,35 @@ pub fn routines() -> Vec<Input> {
         ("511 calls and a return", calls_and_a_return(512)),
         ("310 records that become 4,096", grown_to_the_limit()),
         ("512 tests", repeated("+a1", 512)),
+        ("512 records of many kinds", named()),
         ("513 records", repeated("a1", 513)),
     ];
     with_some_by_chance(records, any_routine)
+}
+
+/// Texts, for the full list of names.
+pub fn texts() -> Vec<Input> {
+    let names = most_names();
+    let mut written = vec![0; quadrilhel::TEXT_BYTES];
+    let count = ordinary::write_text(&bytes_of(&named()), &names, &mut written).unwrap_or(0);
+    written.truncate(count);
+    let goto = |number: usize| format!("##[s{number}][t{number}]");
+    let gotos = (0..500).map(goto).collect::<Vec<String>>().join(";");
+    let known = [
+        ("no text", Vec::new()),
+        ("512 instructions", written),
+        ("a thousandth label", gotos.into_bytes()),
+        ("a megabyte of blanks", vec![b' '; 1 << 20]),
+        ("a megabyte of jumps", b"!;".repeat(1 << 19)),
+        ("a name of a megabyte", vec![b'a'; 1 << 20]),
+    ];
+    let known = known.map(|(name, bytes)| Input {
+        name: name.to_string(),
+        bytes,
+    });
+    let mut inputs = by_chance(|random| any_text(random, &names));
+    inputs.extend(known);
+    inputs
 }
 
 /// Bases.
@@ -100,9 +129,13 @@ fn with_some_by_chance(
         name: name.to_string(),
         bytes: bytes_of(&records),
     });
-    let chance = (1..=BY_CHANCE).map(|case| Input {
+    known.chain(by_chance(any)).collect()
+}
+
+fn by_chance(any: impl Fn(&mut Random) -> Vec<u8>) -> Vec<Input> {
+    let one = |case| Input {
         name: format!("number {case} by chance"),
         bytes: any(&mut Random::of_case(SEED, 0, case)),
-    });
-    known.chain(chance).collect()
+    };
+    (1..=BY_CHANCE).map(one).collect()
 }

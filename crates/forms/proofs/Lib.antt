@@ -1,0 +1,6 @@
+pub mod Tests
+pub mod Runs
+pub mod Table
+pub mod Follow
+pub mod Inside
+pub mod Once

@@ -1,0 +1,11 @@
+pub mod Runs
+pub mod Follows
+pub mod Accepts
+pub mod Apart
+pub mod Local
+pub mod Parts
+pub mod Instructions
+pub mod Stuck
+pub mod Place
+pub mod Spelt
+pub mod Known

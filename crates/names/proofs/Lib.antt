@@ -1,0 +1,4 @@
+pub mod Same
+pub mod Entries
+pub mod Digits
+pub mod Once

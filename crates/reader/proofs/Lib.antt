@@ -1,0 +1,7 @@
+pub mod Names
+pub mod Labels
+pub mod Settled
+pub mod Loop
+pub mod Pages
+pub mod Whole
+pub mod Once

@@ -1,0 +1,274 @@
+// A typed routine read to its records. No name is copied: a label is known by the place where it first stood, and the text is compared
+// with itself.
+use forms::best;
+use forms::byte_at;
+use forms::in_sort;
+use forms::letter_of;
+use forms::span_of;
+use names::action_at;
+use names::number_at;
+use records::put_record;
+use rules::Refusal;
+use text::Fit;
+use text::Sort;
+use text::TextRefusal;
+use text::TextVerdict;
+ghost use mathlib.Core.Path.{_≡_};
+ghost use mathlib.Core.List.{_++_};
+ghost use Prim.Native.Nat.{_+_, _≤_, _<_};
+ghost use lib.ListN.{length, drop};
+ghost use Rattle.rules.specs.Record.{rec};
+ghost use Rattle.text.specs.Bytes.{span};
+ghost use Rattle.text.specs.Names.{nameAt, same, placeOf, entries};
+ghost use Rattle.text.specs.Reading.{settled, withAction, withNumber, withLabelAt, withSecond, readText};
+ghost use Rattle.text.specs.Answers.{reading, bytesRead, Answered};
+ghost use Rattle.reader.specs.Labels.{Places, labelsOf, Labelled};
+ghost use Rattle.reader.specs.Steps.{settledStep, StepBy, StepsBy, Stepped};
+ghost use Rattle.reader.specs.Pages.{Keeps, ReadTo};
+
+// A label's number, 0 for the thousandth, and how many labels there then are.
+pub struct Numbered {
+    pub number: usize,
+    pub count: usize,
+}
+
+// The next instruction: kind, x, y, the place behind it, how many labels there are; or why the text is turned away.
+pub enum Step {
+    Made(u8, u16, u16, usize, usize),
+    Bad(TextRefusal),
+}
+
+// The name at `at`, which has n bytes, is the name at q.
+fn same_name(s: &[u8], at: usize, n: usize, q: usize) -> bool
+    requires { ⌜ (at ≤ length (now s)) × (n ≡ span Sort.Named (now s) at 16) × (q ≤ length (now s)) ⌝ }
+    ensures { λ r. ⌜ r ≡ same (nameAt (now (s .entry)) at) (nameAt (now (s .entry)) q) ⌝ }
+{
+    let mut m = 0;
+    while m < n {
+        if byte_at(s, at + m) != byte_at(s, q + m) {
+            return false;
+        }
+        m += 1;
+    }
+    if n == 16 {
+        return true;
+    }
+    !in_sort(Sort::Named, byte_at(s, q + n))
+}
+
+// The number of the label at `at` among the first `count` places of labels; 0 where it is new.
+fn label_number(s: &[u8], firsts: &[usize], count: usize, at: usize) -> usize
+    requires { ⌜ (count ≤ length (now firsts)) × (at ≤ length (now s)) ⌝ }
+    requires { ⌜ Places (now s) (now firsts) ⌝ }
+    ensures { λ r. ⌜ (r ≡ placeOf (nameAt (now (s .entry)) at) (labelsOf (now (s .entry)) count (now (firsts .entry)))) × (r ≤ count) ⌝ }
+{
+    let n = span_of(Sort::Named, s, at, 16);
+    let mut i = 0;
+    while i < count {
+        if same_name(s, at, n, firsts[i]) {
+            return i + 1;
+        }
+        i += 1;
+    }
+    0
+}
+
+// The label at `at`: a new one is kept, but for the thousandth.
+fn label(s: &[u8], firsts: &mut [usize], count: usize, at: usize) -> Numbered
+    requires { ⌜ (count ≤ 999) × (length (now firsts) ≡ 999) × (at ≤ length (now s)) ⌝ }
+    requires { ⌜ Places (now s) (now firsts) ⌝ }
+    ensures { λ r. ⌜ Labelled (now (s .entry)) (now (firsts .entry)) count at r (now (firsts .exit)) ⌝ }
+{
+    let number = label_number(s, firsts, count, at);
+    if number != 0 {
+        return Numbered { number, count };
+    }
+    if count == 999 {
+        return Numbered { number: 0, count };
+    }
+    firsts[count] = at;
+    Numbered {
+        number: count + 1,
+        count: count + 1,
+    }
+}
+
+// With its names known: the record where the form is whole, else 12.
+fn settle(f: Fit, x: u16, y: u16, count: usize) -> Step
+    requires { ⌜ (f .form ≤ 17) × (f .far < 18446744073709551615) ⌝ }
+    ensures { λ r. ⌜ r ≡ settledStep f x y count ⌝ }
+{
+    if !f.whole {
+        return Step::Bad(TextRefusal::Text(f.far + 1));
+    }
+    if f.form == 17 {
+        return Step::Made(4, 0, 0, f.far, count);
+    }
+    Step::Made(f.form as u8, x, y, f.far, count)
+}
+
+// A form whose name is an action's.
+fn with_action(f: Fit, s: &[u8], l: &[u8], count: usize) -> Step
+    requires { ⌜ (f .form ≤ 17) × (f .far ≤ length (now s) + 1) × (count ≤ 999) × (length (now l) < 16000) ⌝ }
+    ensures { λ r. ⌜ StepsBy (λ us. withAction (now (s .entry)) (entries (now (l .entry))) (f .x) (λ x. settled f x 0 us)) (now (s .entry)) f count r ⌝ }
+{
+    let p = f.x;
+    if p == 0 {
+        return settle(f, 0, 0, count);
+    }
+    let x = action_at(l, s, p - 1);
+    if x == 0 {
+        return Step::Bad(TextRefusal::Name(p));
+    }
+    settle(f, x as u16, 0, count)
+}
+
+// A form that has a number.
+fn with_number(f: Fit, s: &[u8], count: usize) -> Step
+    requires { ⌜ (f .form ≤ 17) × (f .far ≤ length (now s) + 1) × (count ≤ 999) ⌝ }
+    ensures { λ r. ⌜ StepsBy (λ us. withNumber (now (s .entry)) (f .x) (λ x. settled f x 0 us)) (now (s .entry)) f count r ⌝ }
+{
+    let p = f.x;
+    if p == 0 {
+        return settle(f, 0, 0, count);
+    }
+    settle(f, number_at(s, p - 1), 0, count)
+}
+
+// The second label, where the first has number x.
+fn with_second(f: Fit, s: &[u8], firsts: &mut [usize], count: usize, x: u16) -> Step
+    requires { ⌜ (f .form ≤ 17) × (f .far ≤ length (now s) + 1) × (f .y ≤ length (now s)) × (count ≤ 999) × (length (now firsts) ≡ 999) ⌝ }
+    requires { ⌜ Places (now s) (now firsts) ⌝ }
+    ensures { λ r. ⌜ StepBy (withSecond (now (s .entry)) f x) (now (s .entry)) f (now (firsts .entry)) count r (now (firsts .exit)) ⌝ }
+{
+    let p = f.y;
+    if p == 0 {
+        return settle(f, x, 0, count);
+    }
+    let y = label(s, firsts, count, p - 1);
+    if y.number == 0 {
+        return Step::Bad(TextRefusal::Name(p));
+    }
+    settle(f, x, y.number as u16, y.count)
+}
+
+// A form with labels.
+fn with_labels(f: Fit, s: &[u8], firsts: &mut [usize], count: usize) -> Step
+    requires { ⌜ (f .form ≤ 17) × (f .far ≤ length (now s) + 1) × (f .x ≤ length (now s)) × (f .y ≤ length (now s)) × (count ≤ 999) × (length (now firsts) ≡ 999) ⌝ }
+    requires { ⌜ Places (now s) (now firsts) ⌝ }
+    ensures { λ r. ⌜ StepBy (λ us. withLabelAt (now (s .entry)) us (f .x) (λ x us′. withSecond (now (s .entry)) f x us′)) (now (s .entry)) f (now (firsts .entry)) count r (now (firsts .exit)) ⌝ }
+{
+    let p = f.x;
+    if p == 0 {
+        return with_second(f, s, firsts, count, 0);
+    }
+    let x = label(s, firsts, count, p - 1);
+    if x.number == 0 {
+        return Step::Bad(TextRefusal::Name(p));
+    }
+    with_second(f, s, firsts, x.count, x.number as u16)
+}
+
+// The next instruction of the text from `at` on.
+fn next(s: &[u8], l: &[u8], firsts: &mut [usize], count: usize, at: usize) -> Step
+    requires { ⌜ (at ≤ length (now s)) × (count ≤ 999) × (length (now firsts) ≡ 999) × (length (now l) < 16000) ⌝ }
+    requires { ⌜ Places (now s) (now firsts) ⌝ }
+    ensures { λ r. ⌜ Stepped (now (s .entry)) (entries (now (l .entry))) (now (firsts .entry)) count at r (now (firsts .exit)) ⌝ }
+{
+    let from = at + span_of(Sort::Blank, s, at, s.len());
+    let f = best(s, from);
+    let letter = letter_of(f.form);
+    if letter == b'a' {
+        return with_action(f, s, l, count);
+    }
+    if letter == b'k' {
+        return with_number(f, s, count);
+    }
+    if letter == b's' {
+        return with_labels(f, s, firsts, count);
+    }
+    settle(f, 0, 0, count)
+}
+
+// Record number n, from 0, into a page that has room for 512.
+fn keep(page: &mut [u8], n: usize, kind: u8, x: u16, y: u16)
+    requires { ⌜ 4096 ≤ length (now page) ⌝ }
+    ensures { λ _. ⌜ Keeps n (rec kind x y) (now (page .entry)) (now (page .exit)) ⌝ }
+{
+    if n < 512 {
+        let from = 8 * n;
+        put_record(&mut page[from..], kind, x, y);
+    }
+}
+
+// Every instruction of the text, the records of the first 512 into the page: how many there are, or refusal 12 or 13.
+fn read_all(s: &[u8], l: &[u8], page: &mut [u8]) -> TextVerdict
+    requires { ⌜ (length (now l) < 16000) × (4096 ≤ length (now page)) ⌝ }
+    ensures { λ r. ⌜ ReadTo (readText (now (s .entry)) (entries (now (l .entry)))) (now (page .entry)) r (now (page .exit)) ⌝ }
+{
+    if span_of(Sort::Blank, s, 0, s.len()) == s.len() {
+        return TextVerdict::Done(0);
+    }
+    let mut firsts = [0usize; 999];
+    let mut count = 0;
+    let mut at = 0;
+    let mut n = 0;
+    loop {
+        let step = next(s, l, &mut firsts, count, at);
+        match step {
+            Step::Made(kind, x, y, e, c) => {
+                keep(page, n, kind, x, y);
+                n += 1;
+                if s.len() < e {
+                    return TextVerdict::Done(n);
+                }
+                at = e;
+                count = c;
+            }
+            Step::Bad(refusal) => {
+                return TextVerdict::Refused(refusal);
+            }
+        }
+    }
+}
+
+// The bytes at the start of the output.
+fn copy(from: &[u8], out: &mut [u8])
+    requires { ⌜ length (now from) ≤ length (now out) ⌝ }
+    ensures { λ _. ⌜ now (out .exit) ≡ now (from .entry) ++ drop (length (now (from .entry))) (now (out .entry)) ⌝ }
+{
+    let mut i = 0;
+    while i < from.len() {
+        out[i] = from[i];
+        i += 1;
+    }
+}
+
+// A typed routine read to records, in the first 8 bytes each of the output. Refusals: 13 at 0 for a list of names that is ragged or
+// above 999 entries; 12 and 13, whichever comes first in the text; 2; 8.
+pub fn read_text(text: &[u8], names: &[u8], out: &mut [u8]) -> TextVerdict
+    ensures { λ r. ⌜ Answered (reading (now (text .entry)) (now (names .entry)) (now (out .entry))) (bytesRead (now (text .entry)) (now (names .entry))) (now (out .entry)) r (now (out .exit)) ⌝ }
+{
+    let length = names.len();
+    if length % 16 != 0 {
+        return TextVerdict::Refused(TextRefusal::Name(0));
+    }
+    if 999 < length / 16 {
+        return TextVerdict::Refused(TextRefusal::Name(0));
+    }
+    let mut page = [0u8; 4096];
+    let all = read_all(text, names, &mut page);
+    match all {
+        TextVerdict::Refused(refusal) => TextVerdict::Refused(refusal),
+        TextVerdict::Done(n) => {
+            if 512 < n {
+                return TextVerdict::Refused(TextRefusal::Earlier(Refusal::Long));
+            }
+            if out.len() < 8 * n {
+                return TextVerdict::Refused(TextRefusal::Earlier(Refusal::Room));
+            }
+            copy(&page[..8 * n], out);
+            TextVerdict::Done(n)
+        }
+    }
+}

@@ -1,0 +1,3 @@
+pub mod Computes
+pub mod Cases
+pub mod Table

@@ -1,0 +1,9 @@
+-- The table of cases holds, each row by computation.
+use mathlib.Core.Path.{_≡_, refl}
+use Rattle.rules.proofs.Computes.{computes as paper}
+use Rattle.text.proofs.Cases.{Cases}
+use Rattle.text.proofs.Computes.{computes}
+
+pub table : Cases
+unfolding paper computes Cases
+table = (refl, refl, refl, refl, refl, refl, refl, refl, refl, refl, refl, refl, refl, refl, refl, refl, refl, refl, refl, refl, refl, refl, refl, refl, refl, refl, refl, refl, refl, refl, refl, refl, refl, refl, refl, refl, refl, refl, refl, refl, refl, refl, refl, refl, refl, refl, refl, refl, refl, refl, refl, refl, refl, refl, refl, refl, refl, refl, refl, refl, refl, refl, refl, refl, refl, refl, refl, refl, refl, refl, refl, refl, refl, refl, refl, refl, refl, refl, refl, refl, refl, refl, refl, refl, refl, refl, refl, refl, refl, refl, refl, refl, refl, refl, refl, refl, refl, refl, refl, refl)

@@ -1,0 +1,12 @@
+pub mod Truth
+pub mod Decimal
+pub mod Numbered
+pub mod Formed
+pub mod Fields
+pub mod Texts
+pub mod Made
+pub mod Sought
+pub mod Again
+pub mod Checked
+pub mod RoundTrip
+pub mod Routines
