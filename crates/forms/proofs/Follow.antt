@@ -1,58 +1,24 @@
 -- Following a form.
---     Reach, take-reach          a sign that is there takes a byte and stays in the text; one that is not stops in the text
 --     sign-some, sign-none, sign-eight     the signs of a form, one after the other, eight at most
 --     follow-sign, follow-end    one of them followed, and the end of the form
 --     best-out                   past the end of a text no form is followed
-use mathlib.Core.Path.{_≡_, refl, sym, ap, _∙_}
-use mathlib.Core.Bool.{Bool, true, false, cond, _||_}
+use mathlib.Core.Path.{_≡_, refl, _∙_}
+use mathlib.Core.Bool.{Bool, true, false, cond}
 use mathlib.Core.List.{List, [], _∷_}
-use Prim.Native.Nat.{ℕ, zero, suc, _+_, _-_, _≤_, _<_}
+use Prim.Native.Nat.{ℕ, zero, suc, _+_, _-_, _<_}
 use native.Mathlib.Numerals.{add-one}
 use native.Mathlib.Omega.{arith}
-use lib.Dec.{T, eqb, leb, ltb, leb→le}
+use lib.Dec.{T, eqb, leb, leb→le}
 use lib.ListN.{length, getD, drop, List·getD-eq-default}
 use lib.Seq.{drop-cons}
-use borrow.Author.Tests.{ltb-true, ltb-false, eqb-true, eqb-false, eq-eqb, ne-eqb, le-ltb, leb-true, leb-false}
+use borrow.Author.Tests.{eqb-false, ne-eqb, le-ltb}
 use Rattle.text.specs.declared.Sort.{Sort}
 use Rattle.text.specs.declared.Sort.the-variants.{Blank, Digit, Named}
-use Rattle.text.specs.declared.Took.{Took}
-use Rattle.text.specs.declared.Took.the-variants.{On, Off}
-use Rattle.text.specs.Bytes.{byteAt, span}
-use Rattle.text.specs.Forms.{a, k, s, t, Part, itself, name, number, partOf, forms, signsOf, takeRun, takePart, takeSign, xAt, yAt, ending, fit, going, follow, fitOf, further, bestTo}
-use Rattle.forms.proofs.Tests.{by-test, cond-has}
-use Rattle.forms.proofs.Runs.{past-end, run-off, span-off, span-within}
-
-abbrev pub Reach : List ℕ → ℕ → Took → Type 0
-Reach w at (On e) = (at < e) × (e ≤ length w)
-Reach w at (Off e) = (at ≤ e) × (e ≤ length w)
-
-run-reach : (c : Sort) (most : ℕ) (w : List ℕ) (at : ℕ) → at ≤ length w → Reach w at (takeRun c most w at)
-unfolding takeRun
-run-reach c most w at h =
-    let n = span c w at (suc most) in
-    let i : at + n ≤ length w = span-within c w at (suc most) h in
-    cond-has (Reach w at) (eqb n 0) (Off at) (cond (leb n most) (On (at + n)) (Off (at + most)))
-    (λ e. (omega arith, omega arith))
-    (λ e. cond-has (Reach w at) (leb n most) (On (at + n)) (Off (at + most))
-    (λ l. (omega (arith, eqb-false n 0 e), omega arith))
-    (λ l. (omega arith, omega (arith, leb-false n most l))))
-
-pub byte-there : (w : List ℕ) (at : ℕ) → (byteAt w at ≡ 0 → ⊥) → at < length w
-byte-there w at h =
-    by-test (ltb at (length w)) (ltb-true at (length w))
-    (λ e. absurd (h (List·getD-eq-default w 0 (ltb-false at (length w) e))))
-
-pub take-reach : (p : ℕ) (w : List ℕ) (at : ℕ) → 0 < p → at ≤ length w → Reach w at (takeSign p w at)
-unfolding takePart
-take-reach p w at pos h = by (partOf p)
-  where
-    by : (q : Part) → Reach w at (takePart q p w at)
-    by itself =
-        cond-has (Reach w at) (eqb (byteAt w at) p) (On (at + 1)) (Off at)
-        (λ e. let b : at < length w = byte-there w at (λ z. omega (arith, eqb-true (byteAt w at) p e)) in (omega arith, omega arith))
-        (λ _. (omega arith, omega arith))
-    by name = run-reach Named 16 w at h
-    by number = run-reach Digit 4 w at h
+use Rattle.text.specs.declared.Took.the-variants.{Off}
+use Rattle.text.specs.Bytes.{byteAt}
+use Rattle.text.specs.Forms.{Part, itself, name, number, partOf, forms, signsOf, takeRun, takePart, takeSign, xAt, yAt, ending, fit, going, follow, further, bestTo}
+use Rattle.text.proofs.Reach.{past-end, byte-there}
+use Rattle.forms.proofs.Runs.{span-off}
 
 -- all signs are above zero, and a form has at most eight: by one test over all forms
 abbrev pub positive : List ℕ → Bool

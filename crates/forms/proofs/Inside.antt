@@ -1,6 +1,6 @@
 -- Where the best form ends: at or after its start, after it where it is whole; and its names are in the text.
 use mathlib.Core.Path.{_≡_}
-use mathlib.Core.Bool.{Bool, true, false, cond, _||_}
+use mathlib.Core.Bool.{true, false, _||_}
 use mathlib.Core.List.{List, [], _∷_}
 use Prim.Native.Nat.{ℕ, zero, suc, _+_, _≤_, _<_}
 use native.Mathlib.Omega.{arith}
@@ -12,9 +12,9 @@ use Rattle.text.specs.declared.Took.the-variants.{On, Off}
 use Rattle.text.specs.declared.Fit.{Fit}
 use Rattle.text.specs.Bytes.{byteAt, span}
 use Rattle.text.specs.Forms.{a, k, s, t, signsOf, takeSign, xAt, yAt, ending, fit, going, follow, fitOf, further, bestTo}
-use Rattle.forms.proofs.Tests.{cond-has}
-use Rattle.forms.proofs.Runs.{span-within}
-use Rattle.forms.proofs.Follow.{Reach, take-reach, positive, above, all-positive}
+use Rattle.text.proofs.Tests.{cond-has}
+use Rattle.text.proofs.Reach.{span-within, Reach, take-reach}
+use Rattle.forms.proofs.Follow.{positive, above, all-positive}
 
 pub record Inside (w : List ℕ) (at n : ℕ) (f : Fit) : Type 0 where
   pub number : f .form ≤ n
@@ -41,7 +41,7 @@ module _ (w : List ℕ) (at n i : ℕ) (le : i ≤ n) where
   unfolding follow xAt yAt
   follow-inside [] e x y ok lo hi hx hy = ending-inside e x y lo hi hx hy
   follow-inside (p ∷ ps) e x y ok lo hi hx hy =
-      by (λ d x′ y′. follow-inside ps d x′ y′ (above p ps ok .1)) (takeSign p w e) (take-reach p w e (above p ps ok .0) hi)
+      by (λ d x′ y′. follow-inside ps d x′ y′ (above p ps ok .1)) (takeSign p w e) (take-reach w e p (above p ps ok .0) hi)
     where
       by : ((d x′ y′ : ℕ) → at ≤ d → d ≤ length w → x′ ≤ length w → y′ ≤ length w → Inside w at n (follow i ps w d x′ y′))
           → (r : Took) → Reach w e r → Inside w at n (going r (λ d. follow i ps w d (xAt p e x) (yAt p e y)) (λ d. fit i false d x y))

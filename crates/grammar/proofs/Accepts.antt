@@ -16,7 +16,8 @@ use Rattle.text.specs.declared.Took.the-variants.{On}
 use Rattle.text.specs.Bytes.{byteAt, digit, letter, blank, inSort, span}
 use Rattle.text.specs.Forms.{signsOf, Part, itself, name, number, partOf, takeRun, takePart, takeSign, xAt, yAt, ending, fit, follow, fitOf}
 use Rattle.text.specs.Grammar.{All, Form, done, sign, named, numbered}
-use Rattle.grammar.proofs.Runs.{by-test, never, span-exact}
+use Rattle.text.proofs.Tests.{by-test, never}
+use Rattle.grammar.proofs.Runs.{span-exact}
 use Rattle.grammar.proofs.Follows.{left, right, each-form}
 
 -- ## One sign

@@ -15,9 +15,11 @@ use Rattle.text.specs.declared.Took.the-variants.{On, Off}
 use Rattle.text.specs.declared.Fit.{Fit}
 use Rattle.text.specs.Bytes.{byteAt, blank, digit, letter, inSort, run, span}
 use Rattle.text.specs.Forms.{signsOf, Part, itself, name, number, partOf, takeRun, takePart, takeSign, xAt, yAt, ending, fit, going, follow, fitOf, further, bestTo, bestOf}
-use Rattle.grammar.proofs.Runs.{by-test, cond-has, never, span-zero}
+use Rattle.text.proofs.Tests.{by-test, cond-has, never}
+use Rattle.text.proofs.Reach.{Reach, take-reach, byte-there}
+use Rattle.grammar.proofs.Runs.{span-zero}
 use Rattle.grammar.proofs.Accepts.{T-not}
-use Rattle.grammar.proofs.Follows.{Reach, take-reach, byte-there, left, right, positive, forms-positive, above, rest, ending-ahead, follow-ahead}
+use Rattle.grammar.proofs.Follows.{left, right, positive, forms-positive, above, rest, ending-ahead, follow-ahead}
 
 -- ## The byte that a sign begins with
 

@@ -5,48 +5,16 @@ use Prim.Native.Nat.{_≤_, _<_}
 use Prim.Native.Char.{code}
 use native.Mathlib.Omega.{arith}
 use lib.Dec.{T}
-use lib.ListN.{List·getD-eq-default}
-use borrow.Author.Tests.{ltb-true, ltb-false, eqb-true, eqb-false, leb-false}
-use Rattle.rules.specs.Words.{ℕ, zero, suc, _+_, Bool, true, false, not, cond, _&&_, _||_, List, [], _∷_, length, getD, eqb, leb, ltb}
-use Rattle.text.specs.declared.Sort.{Sort}
-use Rattle.text.specs.declared.Sort.the-variants.{Blank, Digit, Named}
+use borrow.Author.Tests.{eqb-false}
+use Rattle.rules.specs.Words.{ℕ, zero, suc, _+_, Bool, true, false, not, _&&_, _||_, List, [], _∷_, length, getD, eqb}
+use Rattle.text.specs.declared.Sort.the-variants.{Blank}
 use Rattle.text.specs.declared.Took.{Took}
 use Rattle.text.specs.declared.Took.the-variants.{On, Off}
 use Rattle.text.specs.declared.Fit.{Fit}
 use Rattle.text.specs.Bytes.{byteAt, span}
-use Rattle.text.specs.Forms.{forms, signsOf, Part, itself, name, number, partOf, takeRun, takePart, takeSign, xAt, yAt, fit, ending, going, follow}
-use Rattle.grammar.proofs.Runs.{by-test, cond-has, never, span-within}
-
-abbrev pub Reach : List ℕ → ℕ → Took → Type 0
-Reach w at (On e) = (at < e) × (e ≤ length w)
-Reach w at (Off e) = (at ≤ e) × (e ≤ length w)
-
-module _ (w : List ℕ) (at : ℕ) where
-  pub byte-there : (byteAt w at ≡ 0 → ⊥) → at < length w
-  byte-there h = by-test (ltb at (length w)) (ltb-true at (length w)) (λ e. absurd (h (List·getD-eq-default w 0 (ltb-false at (length w) e))))
-
-  run-reach : (c : Sort) (most : ℕ) → at ≤ length w → Reach w at (takeRun c most w at)
-  unfolding takeRun
-  run-reach c most h =
-      let n = span c w at (suc most) in
-      let i : at + n ≤ length w = span-within c w at (suc most) h in
-      cond-has (Reach w at) (eqb n 0) (Off at) (cond (leb n most) (On (at + n)) (Off (at + most)))
-      (λ e. (omega arith, omega arith))
-      (λ e. cond-has (Reach w at) (leb n most) (On (at + n)) (Off (at + most))
-      (λ l. (omega (arith, eqb-false n 0 e), omega arith))
-      (λ l. (omega arith, omega (arith, leb-false n most l))))
-
-  part-reach : (q : Part) (p : ℕ) → 0 < p → at ≤ length w → Reach w at (takePart q p w at)
-  unfolding takePart
-  part-reach itself p pos h =
-      cond-has (Reach w at) (eqb (byteAt w at) p) (On (at + 1)) (Off at)
-      (λ e. let b : at < length w = byte-there (λ z. omega (arith, eqb-true (byteAt w at) p e)) in (omega arith, omega arith))
-      (λ _. (omega arith, omega arith))
-  part-reach name p pos h = run-reach Named 16 h
-  part-reach number p pos h = run-reach Digit 4 h
-
-  pub take-reach : (p : ℕ) → 0 < p → at ≤ length w → Reach w at (takeSign p w at)
-  take-reach p pos h = part-reach (partOf p) p pos h
+use Rattle.text.specs.Forms.{forms, signsOf, takeSign, xAt, yAt, fit, ending, going, follow}
+use Rattle.text.proofs.Tests.{cond-has, never}
+use Rattle.text.proofs.Reach.{Reach, take-reach}
 
 -- ## What holds of each form, by one test over them all
 

@@ -11,7 +11,8 @@ use Rattle.text.specs.declared.Fit.{Fit}
 use Rattle.text.specs.Bytes.{byteAt, blank, inSort}
 use Rattle.text.specs.Forms.{signsOf, Part, itself, name, number, partOf, fit, fitOf, further, bestTo, bestOf}
 use Rattle.text.specs.Grammar.{All, Form, done, sign, named, numbered}
-use Rattle.grammar.proofs.Runs.{by-test, cond-has, never, span-exact}
+use Rattle.text.proofs.Tests.{by-test, cond-has, never}
+use Rattle.grammar.proofs.Runs.{span-exact}
 use Rattle.grammar.proofs.Follows.{forms-positive, blanked}
 use Rattle.grammar.proofs.Accepts.{T-not, blank-not-named, Tail, xIn, yIn, whole}
 use Rattle.grammar.proofs.Apart.{upto, best-is}

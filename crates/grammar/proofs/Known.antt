@@ -19,8 +19,9 @@ use Rattle.text.specs.Names.{nameAt, numberAt, placeOf, actionOf, labelOf, with
 use Rattle.text.specs.Reading.{Next, made, bad, formRecord, settled, known, withAction, withNumber, withLabelAt, withSecond, named, nextOf, reads, onwards, readFrom, readText}
 use Rattle.text.specs.Grammar as grammar
 use Rattle.text.specs.Grammar.{All, Form, Some, last, more, blanks, some}
+use Rattle.text.proofs.Tests.{by-test}
 use Rattle.grammar.specs.Promises.{actionsIn, labelsIn, actionsOf, labelsOf, AllListed, withLabels, Known, ReadsTexts}
-use Rattle.grammar.proofs.Runs.{by-test, run-all}
+use Rattle.grammar.proofs.Runs.{run-all}
 use Rattle.grammar.proofs.Follows.{blanked}
 use Rattle.grammar.proofs.Accepts.{Tail, semi, stop, tail-stops, blanks-stop, all-spaced, xIn, yIn}
 use Rattle.grammar.proofs.Parts.{run-stands, Shown}

@@ -13,8 +13,10 @@ use Rattle.text.specs.declared.Took.{Took}
 use Rattle.text.specs.declared.Took.the-variants.{On, Off}
 use Rattle.text.specs.Bytes.{byteAt, inSort, run, span}
 use Rattle.text.specs.Forms.{signsOf, Part, itself, name, number, partOf, takeRun, takePart, takeSign, xAt, yAt, ending, fit, going, follow, fitOf, further, bestTo}
-use Rattle.grammar.proofs.Runs.{by-test, span-within, span-most}
-use Rattle.grammar.proofs.Follows.{Reach, take-reach, positive, forms-positive, above, rest, blanked, ended, follow-from}
+use Rattle.text.proofs.Tests.{by-test}
+use Rattle.text.proofs.Reach.{span-within, Reach, take-reach}
+use Rattle.grammar.proofs.Runs.{span-most}
+use Rattle.grammar.proofs.Follows.{positive, forms-positive, above, rest, blanked, ended, follow-from}
 
 -- The first n bytes are the same.
 abbrev pub Agree : List ℕ → List ℕ → ℕ → Type 0

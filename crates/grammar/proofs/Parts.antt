@@ -18,8 +18,10 @@ use Rattle.text.specs.declared.Fit.{Fit}
 use Rattle.text.specs.Bytes.{byteAt, digit, letter, inSort, run, span}
 use Rattle.text.specs.Forms.{Part, itself, name, number, partOf, takeRun, takePart, takeSign, xAt, yAt, ending, fit, going, follow}
 use Rattle.text.specs.Grammar.{All, Form, done, sign, named, numbered}
-use Rattle.grammar.proofs.Runs.{by-test, never, in-text, run-all}
-use Rattle.grammar.proofs.Follows.{Reach, take-reach, byte-there, positive, above, rest, blanked, ended, ending-has}
+use Rattle.text.proofs.Tests.{by-test, never}
+use Rattle.text.proofs.Reach.{in-text, Reach, take-reach, byte-there}
+use Rattle.grammar.proofs.Runs.{run-all}
+use Rattle.grammar.proofs.Follows.{positive, above, rest, blanked, ended, ending-has}
 use Rattle.grammar.proofs.Accepts.{Tail, semi, stop}
 
 module _ (w : List ℕ) where

@@ -17,8 +17,9 @@ use Rattle.text.specs.Forms.{signsOf, bestOf}
 use Rattle.text.specs.Reading.{reads, refused, readText}
 use Rattle.text.specs.Grammar as grammar
 use Rattle.text.specs.Grammar.{All, Form, Some, last, more, blanks, some, Start}
+use Rattle.text.proofs.Tests.{by-test, never}
 use Rattle.grammar.specs.Promises.{Placed}
-use Rattle.grammar.proofs.Runs.{by-test, never, span-all, run-all}
+use Rattle.grammar.proofs.Runs.{span-all, run-all}
 use Rattle.grammar.proofs.Follows.{blanked}
 use Rattle.grammar.proofs.Accepts.{Tail, semi, stop}
 use Rattle.grammar.proofs.Local.{Agree, blanks-local, best-local}

@@ -1,7 +1,5 @@
 -- Runs of bytes of a sort.
---     by-test, cond-has     a choice by a Bool, with the equation
---     in-text     what is of a sort is in the text
---     span-within, span-most     a run stays in the text, and has no more bytes than were looked at
+--     span-most     a run has no more bytes than were looked at
 --     span-exact     a run ends where the next byte is not of its sort
 --     span-zero     there is none where the first byte is not of its sort
 --     run-all     its bytes are of its sort
@@ -10,46 +8,15 @@ use mathlib.Core.Path.{_≡_, refl, sym, ap, _∙_}
 use Prim.Native.Nat.{_≤_, _<_}
 use native.Mathlib.Nat.{not-suc-le-zero, le-of-suc-le-suc}
 use native.Mathlib.Omega.{arith}
-use lib.ListN.{List·getD-eq-default, length-append}
+use lib.ListN.{length-append}
 use lib.Seq.{getD-append-seam, getD-append-add, append-snoc}
-use borrow.Author.Tests.{ltb-true, ltb-false}
-use Rattle.rules.specs.Words.{ℕ, zero, suc, _+_, Bool, true, false, cond, List, [], _∷_, _++_, length, ltb}
+use Rattle.rules.specs.Words.{ℕ, zero, suc, _+_, false, List, [], _∷_, _++_, length}
 use Rattle.text.specs.declared.Sort.{Sort}
-use Rattle.text.specs.declared.Sort.the-variants.{Blank, Digit, Named}
-use Rattle.text.specs.Bytes.{byteAt, blank, digit, letter, inSort, run, span}
+use Rattle.text.specs.Bytes.{byteAt, inSort, run, span}
 use Rattle.text.specs.Grammar.{All}
-
-pub by-test : {P : Type 0} (t : Bool) → (t ≡ true → P) → (t ≡ false → P) → P
-by-test true f g = f refl
-by-test false f g = g refl
-
-pub cond-has : {X : Type 0} (P : X → Type 0) (b : Bool) (x y : X) → (b ≡ true → P x) → (b ≡ false → P y) → P (cond b x y)
-cond-has P true x y f g = f refl
-cond-has P false x y f g = g refl
-
-pub never : {P : Type 0} → true ≡ false → P
-never h = absurd (let y : _≡_ {A = ℕ} 0 1 = cc in omega arith)
-
-none-zero : (c : Sort) → inSort c 0 ≡ false
-unfolding inSort blank digit letter
-none-zero Blank = refl
-none-zero Digit = refl
-none-zero Named = refl
-
-pub in-text : (c : Sort) (w : List ℕ) (at : ℕ) → inSort c (byteAt w at) ≡ true → at < length w
-in-text c w at h =
-    by-test (ltb at (length w)) (ltb-true at (length w))
-    (λ e. never (sym h ∙ ap (inSort c) (List·getD-eq-default w 0 (ltb-false at (length w) e)) ∙ none-zero c))
+use Rattle.text.proofs.Tests.{by-test}
 
 module _ (c : Sort) (w : List ℕ) where
-  pub span-within : (at n : ℕ) → at ≤ length w → at + span c w at n ≤ length w
-  unfolding run
-  span-within at zero h = omega arith
-  span-within at (suc n) h =
-      by-test (inSort c (byteAt w at))
-      (λ t. let r : suc at + span c w (suc at) n ≤ length w = span-within (suc at) n (in-text c w at t) in rw t (omega arith))
-      (λ t. rw t (omega arith))
-
   pub span-most : (at n : ℕ) → span c w at n ≤ n
   unfolding run
   span-most at zero = omega arith

@@ -13,8 +13,9 @@ use Rattle.text.specs.Bytes.{letter}
 use Rattle.text.specs.Forms.{a, k, s, t, signsOf, letterIn, Part, itself, name, number, partOf, xAt, yAt}
 use Rattle.text.specs.Names.{nameAt, digitsAt}
 use Rattle.text.specs.Grammar.{All, Form, done, sign, named, numbered}
+use Rattle.text.proofs.Tests.{by-test, never}
 use Rattle.grammar.specs.Promises.{actionsIn, labelsIn}
-use Rattle.grammar.proofs.Runs.{by-test, never, run-exact}
+use Rattle.grammar.proofs.Runs.{run-exact}
 use Rattle.grammar.proofs.Follows.{left, right}
 use Rattle.grammar.proofs.Accepts.{Stops, stops-digit, spaced, head-stops, head-ok, rest-ok, xIn, yIn}
 use Rattle.grammar.proofs.Apart.{upto}

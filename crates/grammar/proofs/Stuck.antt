@@ -12,7 +12,8 @@ use Rattle.text.specs.declared.TextRefusal.the-variants.{Text, Name, Earlier}
 use Rattle.text.specs.Forms.{a, k, s, letterOf, bestOf}
 use Rattle.text.specs.Reading.{Next, made, bad, settled, known, withAction, withNumber, withLabelAt, withSecond, named, nextOf, reads, refused, onwards, readFrom}
 use Rattle.text.specs.Names.{nameAt, numberAt, actionOf, labelOf, withLabel}
-use Rattle.grammar.proofs.Runs.{by-test, cond-has, span-within}
+use Rattle.text.proofs.Tests.{by-test, cond-has}
+use Rattle.text.proofs.Reach.{span-within}
 use Rattle.grammar.proofs.Follows.{blanked}
 use Rattle.grammar.proofs.Parts.{Piece}
 use Rattle.grammar.proofs.Instructions.{seen, broken}

@@ -1,7 +1,7 @@
 -- Digits read one after the other: one more, or the last; and how large the number then is.
-use mathlib.Core.Path.{_≡_, refl, sym, ap, _∙_}
-use mathlib.Core.Bool.{Bool, true, false}
-use mathlib.Core.List.{List, [], _∷_}
+use mathlib.Core.Path.{_≡_}
+use mathlib.Core.Bool.{true, false}
+use mathlib.Core.List.{List}
 use Prim.Native.Nat.{ℕ, zero, suc, _+_, _*_, _-_, _≤_, _<_}
 use native.Mathlib.Omega.{arith}
 use lib.Dec.{leb}
@@ -9,7 +9,7 @@ use borrow.Author.Tests.{leb-true}
 use Rattle.text.specs.declared.Sort.the-variants.{Digit}
 use Rattle.text.specs.Bytes.{byteAt, digit, inSort, run}
 use Rattle.text.specs.Names.{valueOf}
-use Rattle.forms.proofs.Tests.{by-test}
+use Rattle.text.proofs.Tests.{by-test}
 use Rattle.forms.proofs.Runs.{run-on, run-off}
 
 -- ten to the i

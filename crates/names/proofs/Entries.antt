@@ -8,19 +8,20 @@
 --     proper-out, proper-none, proper-some     whether an entry is a proper name
 use mathlib.Core.Path.{_≡_, refl, sym, ap, _∙_}
 use mathlib.Core.Bool.{Bool, true, false, _&&_}
-use mathlib.Core.List.{List, [], _∷_, _++_}
+use mathlib.Core.List.{List, [], _∷_}
 use Prim.Native.Nat.{ℕ, zero, suc, _+_, _*_, _-_, _/_, _≤_, _<_}
 use native.Mathlib.Numerals.{add-one}
 use native.Mathlib.Omega.{arith}
 use lib.ListN.{length, getD, take, drop, length-drop, drop-of-length-le}
-use lib.Seq.{getD-take, getD-drop, drop-drop, drop-nil, length-take-le}
+use lib.Seq.{getD-take, getD-drop, drop-drop, length-take-le}
 use lib.Dec.{leb, ltb}
 use borrow.Author.Tests.{le-leb, ltb-true, ltb-false}
 use Rattle.text.specs.declared.Sort.the-variants.{Named}
-use Rattle.text.specs.Bytes.{byteAt, run, span}
-use Rattle.text.specs.Names.{nameAt, same, placeFrom, entriesOf, entries, padded, entry, nameOf, proper}
-use Rattle.forms.proofs.Tests.{by-test}
-use Rattle.forms.proofs.Runs.{past-end, run-off, span-off, span-within}
+use Rattle.text.specs.Bytes.{byteAt, span}
+use Rattle.text.specs.Names.{nameAt, same, placeFrom, entriesOf, entries, padded, nameOf, proper}
+use Rattle.text.proofs.Tests.{by-test}
+use Rattle.text.proofs.Reach.{past-end, span-within}
+use Rattle.forms.proofs.Runs.{run-off, span-off}
 use Rattle.names.proofs.Same.{same-on, same-off, run-most, run-take, run-same, padded-length}
 
 module _ (l : List ℕ) (from : ℕ) (room : from + 16 ≤ length l) where

@@ -6,21 +6,21 @@
 --     run-same              runs over the same bytes are the same
 --     padded-get            padding adds zeros
 use mathlib.Core.Path.{_≡_, refl, sym, ap, _∙_}
-use mathlib.Core.Bool.{Bool, true, false, cond}
-use mathlib.Core.List.{List, [], _∷_, _++_}
+use mathlib.Core.Bool.{false}
+use mathlib.Core.List.{List, _∷_}
 use Prim.Native.Nat.{ℕ, zero, suc, _+_, _-_, _≤_, _<_}
 use native.Mathlib.Numerals.{add-one}
 use native.Mathlib.Omega.{arith}
-use lib.Dec.{eqb}
-use lib.ListN.{length, getD, take, drop, replicate, length-append, length-replicate, getD-replicate, List·getD-append, List·getD-eq-default}
+use lib.ListN.{length, getD, take, drop, replicate, length-append, length-replicate, List·getD-append, List·getD-eq-default}
 use lib.Seq.{drop-cons, getD-append-add}
-use borrow.Author.Tests.{eq-eqb, ne-eqb, lt-ltb, le-ltb, ltb-true, ltb-false}
+use borrow.Author.Tests.{eq-eqb, ne-eqb, ltb-true, ltb-false}
 use lib.Dec.{ltb}
 use Rattle.text.specs.declared.Sort.{Sort}
 use Rattle.text.specs.Bytes.{byteAt, inSort, run, span}
 use Rattle.text.specs.Names.{same, padded}
-use Rattle.forms.proofs.Tests.{by-test, cond-has}
-use Rattle.forms.proofs.Runs.{past-end, in-text, span-off, span-within}
+use Rattle.text.proofs.Tests.{by-test}
+use Rattle.text.proofs.Reach.{past-end, in-text, span-within}
+use Rattle.forms.proofs.Runs.{span-off}
 
 module _ (u v : List ℕ) (m : ℕ) (hu : m < length u) (hv : m < length v) where
   pub same-on : getD u m 0 ≡ getD v m 0 → same (drop m u) (drop m v) ≡ same (drop (m + 1) u) (drop (m + 1) v)

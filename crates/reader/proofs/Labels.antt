@@ -1,10 +1,10 @@
 -- Labels looked up among those so far, and a new one kept.
 --     label-on, label-off                  the label looked for, or the search goes on behind it
 --     label-old, label-none, label-new     one that stood before, the thousandth, a new one
-use mathlib.Core.Path.{_≡_, refl, sym, ap, _∙_}
-use mathlib.Core.Bool.{Bool, true, false}
+use mathlib.Core.Path.{_≡_, refl, ap, _∙_}
+use mathlib.Core.Bool.{true, false}
 use mathlib.Core.List.{List, [], _∷_, _++_, map}
-use Prim.Native.Nat.{ℕ, zero, suc, _+_, _-_, _≤_, _<_}
+use Prim.Native.Nat.{ℕ, suc, _+_, _-_, _≤_, _<_}
 use native.Mathlib.Numerals.{add-one}
 use native.Mathlib.Omega.{arith}
 use lib.Dec.{eqb}
@@ -12,7 +12,7 @@ use lib.ListN.{length, getD, take, drop, set, length-set, length-map}
 use lib.Seq.{drop-cons, getD-take, length-take-le, take-suc-set, getD-set-same, getD-set-other}
 use borrow.Author.Tests.{eq-eqb, ne-eqb, eqb-true, eqb-false, lt-ltb, le-ltb}
 use Rattle.text.specs.Names.{nameAt, same, placeFrom, placeOf, labelOf, withLabel}
-use Rattle.forms.proofs.Tests.{by-test}
+use Rattle.text.proofs.Tests.{by-test}
 use Rattle.reader.specs.Labels.{Places, labelsOf, Labelled}
 
 module _ (w f : List ℕ) (c i : ℕ) (u : List ℕ) (lt : i < c) (le : c ≤ length f) where

@@ -3,8 +3,8 @@
 --     name-on, name-off, name-end, name-full     one byte more; one that differs; the first name's end; sixteen bytes
 use mathlib.Core.Path.{_≡_, refl, sym, ap, _∙_}
 use mathlib.Core.Bool.{Bool, true, false, not}
-use mathlib.Core.List.{List, [], _∷_}
-use Prim.Native.Nat.{ℕ, zero, suc, _+_, _-_, _≤_, _<_}
+use mathlib.Core.List.{List}
+use Prim.Native.Nat.{ℕ, zero, suc, _+_, _-_, _<_}
 use native.Mathlib.Omega.{arith}
 use lib.ListN.{length}
 use borrow.Author.Tests.{eq-eqb, ne-eqb}
@@ -12,7 +12,7 @@ use Rattle.text.specs.declared.Sort.{Sort}
 use Rattle.text.specs.declared.Sort.the-variants.{Named}
 use Rattle.text.specs.Bytes.{byteAt, inSort, run, span}
 use Rattle.text.specs.Names.{same}
-use Rattle.forms.proofs.Tests.{by-test}
+use Rattle.text.proofs.Tests.{by-test}
 use Rattle.forms.proofs.Runs.{run-on, run-off, span-off}
 
 pub in-name : (c : Sort) (w : List ℕ) (at n : ℕ) → 0 < span c w at n → inSort c (byteAt w at) ≡ true

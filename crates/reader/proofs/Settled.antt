@@ -4,10 +4,10 @@
 --     number-zero, number-some                        a number
 --     label-zero, label-bad, label-good               a label
 --     stepped                                         the form that is followed furthest
-use mathlib.Core.Path.{_≡_, refl, sym, ap, _∙_, subst}
-use mathlib.Core.Bool.{Bool, true, false, cond}
-use mathlib.Core.List.{List, [], _∷_}
-use Prim.Native.Nat.{ℕ, zero, suc, _+_, _*_, _-_, _/_, _≤_, _<_}
+use mathlib.Core.Path.{_≡_, refl, sym, _∙_, subst}
+use mathlib.Core.Bool.{cond}
+use mathlib.Core.List.{List}
+use Prim.Native.Nat.{ℕ, zero, suc, _+_, _-_, _/_, _≤_, _<_}
 use native.Mathlib.Omega.{arith}
 use lib.Dec.{eqb}
 use lib.ListN.{length, take, drop}
@@ -18,9 +18,9 @@ use Rattle.text.specs.declared.TextRefusal.the-variants.{Text, Name}
 use Rattle.text.specs.Bytes.{span}
 use Rattle.text.specs.Forms.{bestOf, letterOf}
 use Rattle.text.specs.Names.{nameAt, numberAt, same, placeFrom, entriesOf, entries, padded, actionOf}
-use Rattle.text.specs.Reading.{Next, made, bad, formRecord, settled, withAction, withNumber, withLabelAt, withSecond, named, nextOf}
-use Rattle.forms.proofs.Tests.{by-test, cond-has}
-use Rattle.forms.proofs.Runs.{span-within}
+use Rattle.text.specs.Reading.{Next, formRecord, settled, withAction, withNumber, withLabelAt, named, nextOf}
+use Rattle.text.proofs.Tests.{by-test, cond-has}
+use Rattle.text.proofs.Reach.{span-within}
 use Rattle.forms.proofs.Inside.{Inside, best-inside}
 use Rattle.reader.specs.declared.Step.{Step}
 use Rattle.reader.specs.declared.Step.the-variants.{Made, Bad}

@@ -5,9 +5,9 @@
 use mathlib.Core.Path.{_≡_, refl, sym, ap, _∙_}
 use mathlib.Core.Bool.{Bool, true, false, cond}
 use mathlib.Core.List.{List, [], _∷_, _++_, append-nil, append-assoc}
-use Prim.Native.Nat.{ℕ, zero, suc, _+_, _-_, _≤_, _<_}
+use Prim.Native.Nat.{ℕ, _+_, _-_, _≤_, _<_}
 use native.Mathlib.Omega.{arith}
-use lib.Dec.{T, eqb, leb, leb→le}
+use lib.Dec.{eqb, leb, leb→le}
 use lib.ListN.{length, drop, length-append}
 use borrow.Rule.Slice.PartMut.{putMid}
 use Rattle.rules.specs.Record.{Rec}
@@ -16,12 +16,11 @@ use Rattle.text.specs.Bytes.{byteAt}
 use Rattle.text.specs.Forms.{a, k, s, t, forms, signsOf}
 use Rattle.text.specs.Names.{nameOf, entry}
 use Rattle.text.specs.Writing.{decimal, labelName, writtenSign, writtenSigns}
-use Rattle.forms.proofs.Tests.{cond-has}
 use Rattle.forms.proofs.Follow.{each, sign-some, sign-none}
 use Rattle.names.proofs.Same.{run-most}
 use Rattle.records.proofs.Writing.{rest}
 use Rattle.writer.specs.Printed.{Printed}
-use Rattle.writer.proofs.Printing.{none, printed-as, more, sizes}
+use Rattle.writer.proofs.Printing.{none, printed-as, more}
 use Rattle.writer.proofs.Decimal.{decimal-length}
 
 -- both fields are below 65,536, as two bytes are

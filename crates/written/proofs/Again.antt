@@ -15,8 +15,8 @@ use Rattle.text.specs.Names.{valueOf, actionOf, nameOf, proper, labelOf, withLa
 use Rattle.text.specs.Reading.{made, formRecord, known, named, nextOf, reads, readFrom, readText}
 use Rattle.text.specs.Writing.{decimal, labelName, writtenSigns, formOf, written, furtherOnes, textOf, namelessFrom}
 use Rattle.text.specs.Grammar.{All}
+use Rattle.text.proofs.Tests.{by-test, never}
 use Rattle.grammar.specs.Promises.{actionsIn, labelsIn}
-use Rattle.grammar.proofs.Runs.{by-test, never}
 use Rattle.grammar.proofs.Accepts.{Tail, semi, stop, tail-stops, xIn, yIn}
 use Rattle.grammar.proofs.Instructions.{passed, some-bytes, forms-start}
 use Rattle.grammar.proofs.Place.{upTo, behind, upTo-length}

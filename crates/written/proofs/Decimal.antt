@@ -11,7 +11,8 @@ use Rattle.text.specs.Bytes.{digit, letter, inSort}
 use Rattle.text.specs.Names.{valueOf, digitsAt, numberAt}
 use Rattle.text.specs.Writing.{digits, decimal, labelName}
 use Rattle.text.specs.Grammar.{All}
-use Rattle.grammar.proofs.Runs.{by-test, span-most, run-all}
+use Rattle.text.proofs.Tests.{by-test}
+use Rattle.grammar.proofs.Runs.{span-most, run-all}
 use Rattle.grammar.proofs.Instructions.{digit-named}
 use Rattle.written.proofs.Truth.{and-right}
 

@@ -18,7 +18,7 @@ use Rattle.rules.proofs.Records.{All, at-none}
 use Rattle.rules.proofs.Refusals.{when-none}
 use Rattle.text.specs.Forms.{a, k, s, t, signsOf, letterIn, letterOf}
 use Rattle.text.specs.Names.{same}
-use Rattle.grammar.proofs.Runs.{by-test, never}
+use Rattle.text.proofs.Tests.{by-test, never}
 use Rattle.grammar.proofs.Follows.{left, right}
 use Rattle.grammar.proofs.Apart.{upto}
 use Rattle.written.specs.Promises.{tags}

@@ -11,8 +11,9 @@ use Rattle.text.specs.Forms.{a, k, s, t, signsOf, letterIn, letterOf, itself, n
 use Rattle.text.specs.Names.{entry, nameOf, proper}
 use Rattle.text.specs.Writing.{decimal, labelName, writtenSign, writtenSigns, formOf}
 use Rattle.text.specs.Grammar.{Form, done, sign, named, numbered}
+use Rattle.text.proofs.Tests.{by-test, never}
 use Rattle.grammar.specs.Promises.{actionsIn, labelsIn}
-use Rattle.grammar.proofs.Runs.{by-test, never, run-all, span-most}
+use Rattle.grammar.proofs.Runs.{run-all, span-most}
 use Rattle.grammar.proofs.Accepts.{T-not}
 use Rattle.grammar.proofs.Apart.{upto}
 use Rattle.written.specs.Promises.{tags, tagged}

@@ -15,8 +15,9 @@ use Rattle.text.specs.Names.{nameAt, numberAt, actionOf, nameOf, proper, labelO
 use Rattle.text.specs.Reading.{Next, made, bad, formRecord, named, nextOf, reads, onwards, readFrom, readText}
 use Rattle.text.specs.Grammar as grammar
 use Rattle.text.specs.Grammar.{All, Form, done, sign, numbered}
+use Rattle.text.proofs.Tests.{by-test, cond-has}
 use Rattle.grammar.specs.Promises.{actionsIn, labelsIn}
-use Rattle.grammar.proofs.Runs.{by-test, cond-has, run-all, span-most}
+use Rattle.grammar.proofs.Runs.{run-all, span-most}
 use Rattle.grammar.proofs.Follows.{blanked}
 use Rattle.grammar.proofs.Accepts.{Tail}
 use Rattle.grammar.proofs.Stuck.{Fair, next-fair}

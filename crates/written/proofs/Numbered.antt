@@ -10,7 +10,8 @@ use Rattle.text.specs.Bytes.{byteAt, digit, letter, inSort, run}
 use Rattle.text.specs.Names.{same, placeFrom, placeOf, padded, actionOf, entry, nameOf, proper, labelOf, withLabel}
 use Rattle.text.specs.Writing.{labelName}
 use Rattle.text.specs.Grammar.{All}
-use Rattle.grammar.proofs.Runs.{by-test, never, run-exact}
+use Rattle.text.proofs.Tests.{by-test, never}
+use Rattle.grammar.proofs.Runs.{run-exact}
 use Rattle.written.specs.Promises.{greater}
 use Rattle.written.proofs.Truth.{and-left, and-right}
 use Rattle.written.proofs.Decimal.{label-differs}

@@ -17,7 +17,7 @@ use Rattle.text.specs.Names.{entriesOf, entries, listFault}
 use Rattle.text.specs.Reading.{Reading, reads, refused, readText}
 use Rattle.text.specs.Writing.{textOf, nameless}
 use Rattle.text.specs.Answers.{fits, reading, recordsRead, writes, orElse, writing, bytesRead, textWritten}
-use Rattle.grammar.proofs.Runs.{by-test}
+use Rattle.text.proofs.Tests.{by-test}
 use Rattle.grammar.proofs.Spelt.{or-right}
 use Rattle.written.specs.Promises.{RecordsBack, again, RoundTrip}
 use Rattle.written.proofs.Made.{Rights, text-right}

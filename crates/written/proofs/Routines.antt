@@ -15,7 +15,7 @@ use Rattle.text.specs.Forms.{a, k, s, t, signsOf, letterOf}
 use Rattle.text.specs.Names.{same, placeFrom, placeOf, padded, actionOf, entries, entry, nameOf, proper}
 use Rattle.text.specs.Writing.{namelessFrom}
 use Rattle.text.specs.Answers.{textWritten}
-use Rattle.grammar.proofs.Runs.{by-test}
+use Rattle.text.proofs.Tests.{by-test}
 use Rattle.written.specs.Promises.{Distinct, tags, tagged, labelNumbers, greater, InOrder, LabelsInOrder, RoutineBack}
 use Rattle.written.proofs.Numbered.{same-self, there, proper-some, proper-same, Given}
 use Rattle.written.proofs.Fields.{Ranged, inside, all-suited, faultless, no-tags, with-tags, by-letter}

@@ -23,7 +23,7 @@ use Rattle.text.specs.Writing.{written, writtenSigns, furtherOnes, textOf, name
 use Rattle.text.specs.Answers.{writes, orElse, writing, textWritten}
 use Rattle.text.specs.Grammar as grammar
 use Rattle.text.specs.Grammar.{All, Some, last, more, blanks, some}
-use Rattle.grammar.proofs.Runs.{by-test, never}
+use Rattle.text.proofs.Tests.{by-test, never}
 use Rattle.written.specs.Promises.{WritesTexts}
 use Rattle.written.proofs.Formed.{Instruction, instruction}
 use Rattle.written.proofs.Fields.{Ranged, faultless}

@@ -4,7 +4,7 @@ use Prim.Native.Nat.{_≤_}
 use lib.Dec.{T}
 use borrow.Author.Tests.{eqb-true, leb-true}
 use Rattle.rules.specs.Words.{ℕ, Bool, true, false, _&&_, _||_, eqb, leb}
-use Rattle.grammar.proofs.Runs.{never}
+use Rattle.text.proofs.Tests.{never}
 
 pub T-true : (b : Bool) → T b → b ≡ true
 T-true true h = refl

@@ -1,12 +1,12 @@
-use mathlib.Core.Path.{_≡_, _∙_}
-use Prim.Native.Nat.{ℕ, _+_, _≤_}
+use mathlib.Core.Path.{_∙_}
+use Prim.Native.Nat.{_+_, _≤_}
 use native.Mathlib.Omega.{arith}
 use lib.ListN.{length}
 use borrow.Author.Needs.{needs}
 use borrow.Author.Tests.{eq-eqb, ne-eqb}
 use Rattle.text.specs.declared.Sort.the-variants.{Blank}
 use Rattle.text.specs.Forms.{ending}
-use Rattle.forms.proofs.Runs.{span-within}
+use Rattle.text.proofs.Reach.{span-within}
 use Rattle.forms.proofs.end_of.Statement.{statement}
 use Rattle.forms.proofs.end_of.Tie as tie
 

@@ -1,11 +1,12 @@
 use mathlib.Core.Path.{_≡_, refl, sym, _∙_, subst}
-use Prim.Native.Nat.{ℕ, _+_, _-_, _≤_, _<_}
+use Prim.Native.Nat.{_-_, _≤_, _<_}
 use native.Mathlib.Omega.{arith}
 use lib.ListN.{length, drop}
 use borrow.Author.Needs.{needs}
 use Rattle.text.specs.declared.Took.{Took}
 use Rattle.text.specs.Forms.{signsOf, follow, fitOf}
-use Rattle.forms.proofs.Follow.{Reach, take-reach, sign-eight, follow-sign, follow-end}
+use Rattle.text.proofs.Reach.{Reach, take-reach}
+use Rattle.forms.proofs.Follow.{sign-eight, follow-sign, follow-end}
 use Rattle.forms.proofs.follow_form.Statement.{statement}
 use Rattle.forms.proofs.follow_form.Tie as tie
 
@@ -20,7 +21,7 @@ on : (c : tie.After-known-told Inv-loop μ-loop) → let a = c .before .before .
     (c .before .before .before .before .before .before .loop .here < e) × (e ≤ length (a .s .now))
 on c = let a = c .before .before .before .before .before .before .before .before .args in let l = c .before .before .before .before .before .before .loop in
     subst (λ (r : Took). Reach (a .s .now) (l .here) r) (sym (c .before .before .before .take-sign .ensures) ∙ c .before .took .given .1)
-    (take-reach (c .before .before .before .before .before .sign .result) (a .s .now) (l .here) (omega (arith, c .before .before .before .before .if1 .left)) (omega arith))
+    (take-reach (a .s .now) (l .here) (c .before .before .before .before .before .sign .result) (omega (arith, c .before .before .before .before .if1 .left)) (omega arith))
 
 eight : (c : tie.After-known-told Inv-loop μ-loop) → c .before .before .before .before .before .before .loop .j < 8
 eight c = sign-eight (c .before .before .before .before .before .before .before .before .args .i) (c .before .before .before .before .before .before .loop .j) (λ z. c .before .before .before .before .if1 .left (c .before .before .before .before .before .sign .ensures ∙ z))

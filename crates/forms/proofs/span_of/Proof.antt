@@ -1,12 +1,13 @@
 use mathlib.Core.Path.{_≡_, sym, ap, _∙_}
 use mathlib.Core.Bool.{true, false}
-use Prim.Native.Nat.{ℕ, _+_, _-_, _≤_}
+use Prim.Native.Nat.{_+_, _-_, _≤_}
 use native.Mathlib.Omega.{arith}
 use lib.ListN.{length}
 use borrow.Author.Needs.{needs}
 use borrow.Author.Tests.{not-true, not-false}
 use Rattle.text.specs.Bytes.{byteAt, inSort, run, span}
-use Rattle.forms.proofs.Runs.{past-end, in-text, span-on, span-off}
+use Rattle.text.proofs.Reach.{past-end, in-text}
+use Rattle.forms.proofs.Runs.{span-on, span-off}
 use Rattle.forms.proofs.span_of.Statement.{statement}
 use Rattle.forms.proofs.span_of.Tie as tie
 

@@ -1,5 +1,5 @@
 use mathlib.Core.Path.{_≡_, ap, _∙_}
-use Prim.Native.Nat.{ℕ, suc, _+_, _≤_}
+use Prim.Native.Nat.{suc, _+_, _≤_}
 use native.Mathlib.Numerals.{add-one}
 use native.Mathlib.Omega.{arith}
 use lib.ListN.{length}
@@ -7,7 +7,7 @@ use borrow.Author.Needs.{needs}
 use borrow.Author.Tests.{eq-eqb, ne-eqb, le-leb, lt-leb}
 use Rattle.text.specs.Bytes.{span}
 use Rattle.text.specs.Forms.{takeRun}
-use Rattle.forms.proofs.Runs.{span-within}
+use Rattle.text.proofs.Reach.{span-within}
 use Rattle.forms.proofs.take_run.Statement.{statement}
 use Rattle.forms.proofs.take_run.Tie as tie
 

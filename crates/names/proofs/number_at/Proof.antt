@@ -1,6 +1,6 @@
 use mathlib.Core.Path.{_≡_, sym, ap, _∙_}
 use mathlib.Core.Bool.{true, false}
-use Prim.Native.Nat.{ℕ, _+_, _*_, _-_, _≤_, _<_}
+use Prim.Native.Nat.{_+_, _-_, _≤_, _<_}
 use native.Mathlib.Omega.{arith}
 use lib.ListN.{length}
 use borrow.Author.Needs.{needs}
@@ -8,7 +8,8 @@ use borrow.Author.Tests.{not-true, not-false}
 use Rattle.text.specs.declared.Sort.the-variants.{Digit}
 use Rattle.text.specs.Bytes.{byteAt, inSort, run}
 use Rattle.text.specs.Names.{valueOf, numberAt}
-use Rattle.forms.proofs.Runs.{past-end, in-text, run-off}
+use Rattle.text.proofs.Reach.{past-end, in-text}
+use Rattle.forms.proofs.Runs.{run-off}
 use Rattle.names.proofs.Digits.{tens, tens-on, tens-small, digit-range, number-on, number-off}
 use Rattle.names.proofs.number_at.Statement.{statement}
 use Rattle.names.proofs.number_at.Tie as tie

@@ -1,5 +1,5 @@
 use mathlib.Core.Path.{_≡_, sym, ap, _∙_}
-use Prim.Native.Nat.{ℕ, _+_, _≤_}
+use Prim.Native.Nat.{_+_, _≤_}
 use native.Mathlib.Omega.{arith}
 use lib.ListN.{length}
 use borrow.Author.Needs.{needs}
@@ -9,7 +9,7 @@ use Rattle.text.specs.Bytes.{span}
 use Rattle.text.specs.Forms.{bestOf}
 use Rattle.text.specs.Names.{entries}
 use Rattle.text.specs.Reading.{named}
-use Rattle.forms.proofs.Runs.{span-within}
+use Rattle.text.proofs.Reach.{span-within}
 use Rattle.forms.proofs.Inside.{Inside, best-inside}
 use Rattle.reader.proofs.Settled.{settled-steps, stepped}
 use Rattle.reader.proofs.next.Statement.{statement}

@@ -1,13 +1,14 @@
-use mathlib.Core.Path.{_≡_, refl, sym, ap, _∙_}
-use mathlib.Core.Bool.{true, false, not}
-use Prim.Native.Nat.{ℕ, _+_, _-_, _≤_, _<_}
+use mathlib.Core.Path.{_≡_, sym, ap, _∙_}
+use mathlib.Core.Bool.{true, not}
+use Prim.Native.Nat.{_+_, _-_, _≤_, _<_}
 use native.Mathlib.Omega.{arith}
 use lib.ListN.{length}
 use borrow.Author.Needs.{needs}
 use Rattle.text.specs.declared.Sort.the-variants.{Named}
 use Rattle.text.specs.Bytes.{byteAt, inSort, span}
 use Rattle.text.specs.Names.{nameAt, same}
-use Rattle.forms.proofs.Runs.{in-text, span-on}
+use Rattle.text.proofs.Reach.{in-text}
+use Rattle.forms.proofs.Runs.{span-on}
 use Rattle.names.proofs.Same.{run-most}
 use Rattle.reader.proofs.Names.{in-name, out-of-name, Left, name-on, name-off, name-end, name-full}
 use Rattle.reader.proofs.same_name.Statement.{statement}
