@@ -31,7 +31,7 @@
  *     qh_check_relative      1,024    qh_run_base            3,072
  *     qh_convert            52,224    qh_step_routine       54,272
  *     qh_to_relative         1,024    qh_step_base           3,072
- *     qh_to_absolute         1,024    qh_read_text          14,336
+ *     qh_to_absolute         1,024    qh_read_text          16,384
  *                                     qh_write_text         13,312
  *
  * A call that is refused says why by one of the numbers below and writes to no

@@ -1,7 +1,6 @@
 -- The entries of the list.
 --     entry-get             a byte of an entry is one of the list
 --     entry-on, entry-off, entry-end     an entry compared with a name: one byte more, one that differs, the end
---     place-on, place-off   the entry looked for, or the search goes on behind it
 --     entry-of              an entry by its number
 --     name-out, name-at     the name of an entry, by its number
 --     name-part     its bytes in the list
@@ -10,7 +9,6 @@ use mathlib.Core.Path.{_≡_, refl, sym, ap, _∙_}
 use mathlib.Core.Bool.{Bool, true, false, _&&_}
 use mathlib.Core.List.{List, [], _∷_}
 use Prim.Native.Nat.{ℕ, zero, suc, _+_, _*_, _-_, _/_, _≤_, _<_}
-use native.Mathlib.Numerals.{add-one}
 use native.Mathlib.Omega.{arith}
 use lib.ListN.{length, getD, take, drop, length-drop, drop-of-length-le}
 use lib.Seq.{getD-take, getD-drop, drop-drop, length-take-le}
@@ -18,7 +16,7 @@ use lib.Dec.{leb, ltb}
 use borrow.Author.Tests.{le-leb, ltb-true, ltb-false}
 use Rattle.text.specs.declared.Sort.the-variants.{Named}
 use Rattle.text.specs.Bytes.{byteAt, span}
-use Rattle.text.specs.Names.{nameAt, same, placeFrom, entriesOf, entries, padded, nameOf, proper}
+use Rattle.text.specs.Names.{nameAt, same, entriesOf, entries, padded, entry, nameOf, proper}
 use Rattle.text.proofs.Tests.{by-test}
 use Rattle.text.proofs.Reach.{past-end, span-within}
 use Rattle.forms.proofs.Runs.{run-off, span-off}
@@ -59,22 +57,6 @@ module _ (l : List ℕ) (from : ℕ) (room : from + 16 ≤ length l) (s : List �
         drop-of-length-le (padded 16 (nameAt s at)) {i = 16} (omega (arith, sixteen)),
         drop-of-length-le (take 16 (drop from l)) {i = 16} (omega (arith, entry-length l from room)),
       )
-
-module _ (p l : List ℕ) (count e : ℕ) (lt : e < count) where
-  next : entriesOf (count - e) (drop (16 * e) l) ≡ take 16 (drop (16 * e) l) ∷ entriesOf (count - (e + 1)) (drop (16 * (e + 1)) l)
-  next =
-      let d : count - e ≡ suc (count - (e + 1)) = omega arith in
-      let k : 16 * (e + 1) ≡ 16 * e + 16 = omega arith in
-      rw (d, k) (ap (λ r. take 16 (drop (16 * e) l) ∷ entriesOf (count - (e + 1)) r) (drop-drop 16 (16 * e) l))
-
-  pub place-on : same p (take 16 (drop (16 * e) l)) ≡ true → placeFrom (e + 1) p (entriesOf (count - e) (drop (16 * e) l)) ≡ e + 1
-  unfolding placeFrom
-  place-on h = rw (next, h)
-
-  pub place-off : same p (take 16 (drop (16 * e) l)) ≡ false
-      → placeFrom (e + 1) p (entriesOf (count - e) (drop (16 * e) l)) ≡ placeFrom (e + 1 + 1) p (entriesOf (count - (e + 1)) (drop (16 * (e + 1)) l))
-  unfolding placeFrom
-  place-off h = rw (next, h, add-one (e + 1))
 
 pub entry-of : (n : ℕ) (l : List ℕ) (k : ℕ) → k < n → getD (entriesOf n l) k [] ≡ take 16 (drop (16 * k) l)
 entry-of zero l k h = absurd (omega arith)

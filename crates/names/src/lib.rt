@@ -1,5 +1,4 @@
-// Names and numbers of a text: an action's number by its name in the lent list, whether an entry of the list is a proper name, and the
-// number that digits are.
+// Names and numbers of a text: whether an entry of the lent list is a proper name, how long it is, and the number that digits are.
 use forms::byte_at;
 use forms::in_sort;
 use forms::span_of;
@@ -8,7 +7,7 @@ ghost use mathlib.Core.Path.{_≡_};
 ghost use Prim.Native.Nat.{_+_, _-_, _≤_};
 ghost use lib.ListN.{length, take, drop};
 ghost use Rattle.text.specs.Bytes.{byteAt, span};
-ghost use Rattle.text.specs.Names.{nameAt, numberAt, same, entries, padded, actionOf, nameOf, proper};
+ghost use Rattle.text.specs.Names.{nameAt, numberAt, same, entries, padded, nameOf, proper};
 
 // Byte number m, from 0, of the name at `at`, which has n bytes, padded with zeros.
 fn wanted(s: &[u8], at: usize, n: usize, m: usize) -> u8
@@ -34,23 +33,6 @@ fn is_entry(l: &[u8], from: usize, first: u8, s: &[u8], at: usize, n: usize) -> 
         m += 1;
     }
     true
-}
-
-// The number of the action whose name is at `at` of the text: its first place in the list, 0 where it has none.
-pub fn action_at(l: &[u8], s: &[u8], at: usize) -> usize
-    ensures { λ r. ⌜ r ≡ actionOf (entries (now (l .entry))) (nameAt (now (s .entry)) at) ⌝ }
-{
-    let n = span_of(Sort::Named, s, at, 16);
-    let first = wanted(s, at, n, 0);
-    let count = l.len() / 16;
-    let mut e = 0;
-    while e < count {
-        if is_entry(l, 16 * e, first, s, at, n) {
-            return e + 1;
-        }
-        e += 1;
-    }
-    0
 }
 
 fn one_less(e: usize) -> usize

@@ -5,7 +5,8 @@ use forms::byte_at;
 use forms::in_sort;
 use forms::letter_of;
 use forms::span_of;
-use names::action_at;
+use name_index::fill_index;
+use name_index::indexed_action;
 use names::number_at;
 use records::put_record;
 use rules::Refusal;
@@ -22,6 +23,7 @@ ghost use Rattle.text.specs.Bytes.{span};
 ghost use Rattle.text.specs.Names.{nameAt, same, placeOf, entries};
 ghost use Rattle.text.specs.Reading.{settled, withAction, withNumber, withLabelAt, withSecond, readText};
 ghost use Rattle.text.specs.Answers.{reading, bytesRead, Answered};
+ghost use Rattle.name_index.specs.Index.{Indexed};
 ghost use Rattle.reader.specs.Labels.{Places, labelsOf, Labelled};
 ghost use Rattle.reader.specs.Steps.{settledStep, StepBy, StepsBy, Stepped};
 ghost use Rattle.reader.specs.Pages.{Keeps, ReadTo};
@@ -108,15 +110,16 @@ fn settle(f: Fit, x: u16, y: u16, count: usize) -> Step
 }
 
 // A form whose name is an action's.
-fn with_action(f: Fit, s: &[u8], l: &[u8], count: usize) -> Step
+fn with_action(f: Fit, s: &[u8], l: &[u8], heads: &[u16], links: &[u16], count: usize) -> Step
     requires { ⌜ (f .form ≤ 17) × (f .far ≤ length (now s) + 1) × (count ≤ 999) × (length (now l) < 16000) ⌝ }
+    requires { ⌜ Indexed (entries (now l)) (now heads) (now links) ⌝ }
     ensures { λ r. ⌜ StepsBy (λ us. withAction (now (s .entry)) (entries (now (l .entry))) (f .x) (λ x. settled f x 0 us)) (now (s .entry)) f count r ⌝ }
 {
     let p = f.x;
     if p == 0 {
         return settle(f, 0, 0, count);
     }
-    let x = action_at(l, s, p - 1);
+    let x = indexed_action(l, heads, links, s, p - 1);
     if x == 0 {
         return Step::Bad(TextRefusal::Name(p));
     }
@@ -170,16 +173,25 @@ fn with_labels(f: Fit, s: &[u8], firsts: &mut [usize], count: usize) -> Step
 }
 
 // The next instruction of the text from `at` on.
-fn next(s: &[u8], l: &[u8], firsts: &mut [usize], count: usize, at: usize) -> Step
+fn next(
+    s: &[u8],
+    l: &[u8],
+    heads: &[u16],
+    links: &[u16],
+    firsts: &mut [usize],
+    count: usize,
+    at: usize,
+) -> Step
     requires { ⌜ (at ≤ length (now s)) × (count ≤ 999) × (length (now firsts) ≡ 999) × (length (now l) < 16000) ⌝ }
     requires { ⌜ Places (now s) (now firsts) ⌝ }
+    requires { ⌜ Indexed (entries (now l)) (now heads) (now links) ⌝ }
     ensures { λ r. ⌜ Stepped (now (s .entry)) (entries (now (l .entry))) (now (firsts .entry)) count at r (now (firsts .exit)) ⌝ }
 {
     let from = at + span_of(Sort::Blank, s, at, s.len());
     let f = best(s, from);
     let letter = letter_of(f.form);
     if letter == b'a' {
-        return with_action(f, s, l, count);
+        return with_action(f, s, l, heads, links, count);
     }
     if letter == b'k' {
         return with_number(f, s, count);
@@ -209,12 +221,15 @@ fn read_all(s: &[u8], l: &[u8], page: &mut [u8]) -> TextVerdict
     if span_of(Sort::Blank, s, 0, s.len()) == s.len() {
         return TextVerdict::Done(0);
     }
+    let mut heads = [0u16; 512];
+    let mut links = [0u16; 1000];
+    fill_index(l, &mut heads, &mut links);
     let mut firsts = [0usize; 999];
     let mut count = 0;
     let mut at = 0;
     let mut n = 0;
     loop {
-        let step = next(s, l, &mut firsts, count, at);
+        let step = next(s, l, &heads, &links, &mut firsts, count, at);
         match step {
             Step::Made(kind, x, y, e, c) => {
                 keep(page, n, kind, x, y);

@@ -14,7 +14,7 @@ pub const STACK_NEEDS: [(&str, usize); 13] = [
     ("qh_to_relative", 1_024),
     ("qh_to_absolute", 1_024),
     ("qh_list", 196_608),
-    ("qh_read_text", 14_336),
+    ("qh_read_text", 16_384),
     ("qh_write_text", 13_312),
     ("qh_run_routine", 53_248),
     ("qh_run_base", 3_072),
