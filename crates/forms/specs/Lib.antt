@@ -1,1 +1,2 @@
 pub mod Blankless
+pub mod Starts

@@ -8,6 +8,7 @@ ghost use lib.ListN.{length};
 ghost use Rattle.text.specs.Bytes.{byteAt, blank, digit, letter, inSort, span};
 ghost use Rattle.text.specs.Forms.{signsOf, letterOf, takeRun, takeSign, xAt, yAt, fit, ending, fitOf, further, bestOf};
 ghost use Rattle.forms.specs.Blankless.{blankless};
+ghost use Rattle.forms.specs.Starts.{startsWith};
 
 // The byte of a text behind its first `at`; 0 past the end.
 pub fn byte_at(s: &[u8], at: usize) -> u8
@@ -244,6 +245,17 @@ fn further_of(f: Fit, g: Fit) -> Fit
     if f.far < g.far { g } else { f }
 }
 
+// Form i can start with the byte b. A text whose byte is another does not come to the form's second sign.
+fn can_start(i: usize, b: u8) -> bool
+    ensures { λ r. ⌜ r ≡ startsWith i b ⌝ }
+{
+    let p = sign(i, 0);
+    if p == b'a' {
+        return in_sort(Sort::Named, b);
+    }
+    p == b
+}
+
 // The form that the text follows furthest from `at` on.
 pub fn best(s: &[u8], at: usize) -> Fit
     ensures { λ r. ⌜ r ≡ bestOf (now (s .entry)) at ⌝ }
@@ -252,10 +264,13 @@ pub fn best(s: &[u8], at: usize) -> Fit
     if s.len() < at {
         return f;
     }
+    let b = byte_at(s, at);
     let mut n = 0;
     while n < 17 {
         n += 1;
-        f = further_of(f, follow_form(n, s, at));
+        if can_start(n, b) {
+            f = further_of(f, follow_form(n, s, at));
+        }
     }
     f
 }
