@@ -9,8 +9,7 @@ sys.path.insert(0, str(HERE.parents[1] / "examples"))
 from make import record, routine  # the paper's notation as bytes
 
 RELATIVE = {"forward": 17, "backward": 18, "stop": 19}
-CALLS = ["check", "convert", "list", "relative", "absolute", "run", "base", "loop_end", "loop_header", "end", "header",
-         "separator", "item_separator", "target"]
+CALLS = ["check", "convert", "list", "relative", "absolute", "run", "base", "loop_end", "loop_header", "end", "arm", "target"]
 
 
 def instructions(text):

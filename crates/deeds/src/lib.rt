@@ -70,7 +70,7 @@ fn plain(kind: u8, s: &[u8], places: &[u16], i: usize) -> Deed
     }
 }
 
-// +a{: on yes i+1, on no past the separator. -a{ with yes and no exchanged. }{: past its end. }: i+1 or end.
+// +a{: on yes i+1, on no past its first arm. -a{ with yes and no exchanged. }{: past its end. }: i+1.
 fn block(kind: u8, s: &[u8], places: &[u16], i: usize) -> Deed
     requires { ⌜ (8 ≤ kind) × (kind ≤ 11) × (1 ≤ i) × (i ≤ count (now s)) ⌝ }
     ensures { λ r. ⌜ ((next : ℕ) → r ≡ deedOf (now (s .entry)) (now (places .entry)) i next kind) ⌝ }

@@ -8,8 +8,7 @@ use Rattle.rules.specs.Instruction.{Sort, conditional, loop, Op, act, test, jum
 use Rattle.rules.specs.Numbers.{at, each, moveTo}
 use Rattle.rules.specs.Nesting.{bracket}
 use Rattle.rules.specs.Skip.{adding, plainTest, skipFrom, skip}
-use Rattle.rules.specs.Partners.{roleOf, role, endAt, endFrom, separatorAt, separatorFrom, endOf, separatorOf, opening, isHeader, headerUpTo, headerOf}
-use Rattle.rules.specs.Conditionals.{itsSeparator}
+use Rattle.rules.specs.Partners.{roleOf, role, stopAt, stopFrom, endOf, armOf, opening, isHeader, headerUpTo, headerOf}
 use Rattle.rules.specs.Labels.{unlabel, labels}
 use Rattle.rules.specs.Step.{deed, Mem, stepAt, step}
 use Rattle.rules.specs.Run.{startOf}
@@ -55,16 +54,10 @@ module _ (L : List Op) where
 
   -- ## Partners stay
 
-  end-alike : (b : Sort) (d k p : ℕ) (os : List Op) → endFrom b d k (each (unlabel L) p os) ≡ endFrom b d k os
-  unfolding endFrom each
-  end-alike b d k p [] = refl
-  end-alike b d k p (o ∷ os) = rw (role-alike b p o) (ap (endAt (role b o) d k) (fun-ext (λ e. end-alike b e (suc k) (suc p) os)))
-
-  separator-alike : (d k p : ℕ) (os : List Op) → separatorFrom d k (each (unlabel L) p os) ≡ separatorFrom d k os
-  unfolding separatorFrom each
-  separator-alike d k p [] = refl
-  separator-alike d k p (o ∷ os) =
-      rw (role-alike conditional p o) (ap (separatorAt (role conditional o) d k) (fun-ext (λ e. separator-alike e (suc k) (suc p) os)))
+  stop-alike : (w : Bool) (b : Sort) (d k p : ℕ) (os : List Op) → stopFrom w b d k (each (unlabel L) p os) ≡ stopFrom w b d k os
+  unfolding stopFrom each
+  stop-alike w b d k p [] = refl
+  stop-alike w b d k p (o ∷ os) = rw (role-alike b p o) (ap (stopAt w (role b o) d k) (fun-ext (λ e. stop-alike w b e (suc k) (suc p) os)))
 
   drop-each : (i p : ℕ) (os : List Op) → drop i (each (unlabel L) p os) ≡ each (unlabel L) (i + p) (drop i os)
   unfolding each
@@ -72,14 +65,17 @@ module _ (L : List Op) where
   drop-each (suc i) p [] = refl
   drop-each (suc i) p (o ∷ os) = drop-each i (suc p) os ∙ ap (λ (q : ℕ). each (unlabel L) q (drop i os)) (omega arith)
 
-  end-of-alike : (b : Sort) (i : ℕ) → endOf b (labels L) i ≡ endOf b L i
-  unfolding endOf labels
-  end-of-alike b i = ap (endFrom b 0 (suc i)) (drop-each i 1 L) ∙ end-alike b 0 (suc i) (i + 1) (drop i L)
+  stop-of-alike : (w : Bool) (b : Sort) (i : ℕ) → stopFrom w b 0 (suc i) (drop i (labels L)) ≡ stopFrom w b 0 (suc i) (drop i L)
+  unfolding labels
+  stop-of-alike w b i = ap (stopFrom w b 0 (suc i)) (drop-each i 1 L) ∙ stop-alike w b 0 (suc i) (i + 1) (drop i L)
 
-  separator-of-alike : (i : ℕ) → separatorOf (labels L) i ≡ separatorOf L i
-  unfolding separatorOf labels
-  separator-of-alike zero = refl
-  separator-of-alike (suc i) = ap (separatorFrom 0 (suc (suc i))) (drop-each (suc i) 1 L) ∙ separator-alike 0 (suc (suc i)) (suc i + 1) (drop (suc i) L)
+  end-of-alike : (b : Sort) (i : ℕ) → endOf b (labels L) i ≡ endOf b L i
+  unfolding endOf
+  end-of-alike b i = stop-of-alike false b i
+
+  arm-of-alike : (i : ℕ) → armOf (labels L) i ≡ armOf L i
+  unfolding armOf
+  arm-of-alike i = stop-of-alike true conditional i
 
   header-of-alike : (b : Sort) (i : ℕ) → headerOf b (labels L) i ≡ headerOf b L i
   unfolding headerOf headerUpTo isHeader
@@ -92,17 +88,17 @@ module _ (L : List Op) where
   -- ## Deeds stay
 
   deed-alike : (i : ℕ) (o : Op) → deed (labels L) i (unlabel L i o) ≡ deed L i o
-  unfolding deed unlabel itsSeparator
+  unfolding deed unlabel
   deed-alike i (act a) = refl
   deed-alike i (test v a) = refl
   deed-alike i (jump k) = refl
   deed-alike i (label s) = refl
   deed-alike i (goto s) = refl
   deed-alike i (goto2 s t) = refl
-  deed-alike i (header conditional v a) = rw (separator-of-alike i)
+  deed-alike i (header conditional v a) = rw (arm-of-alike i)
   deed-alike i (header loop v a) = rw (end-of-alike loop i)
   deed-alike i separator = rw (end-of-alike conditional i)
-  deed-alike i (end conditional) = rw (header-of-alike conditional i, separator-of-alike (headerOf conditional L i))
+  deed-alike i (end conditional) = refl
   deed-alike i (end loop) = rw (header-of-alike loop i)
   deed-alike i (call k) = refl
   deed-alike i return = refl

@@ -5,18 +5,18 @@ use native.Mathlib.Nat.{zero-add}
 use native.Mathlib.Numerals.{add-one}
 use native.Mathlib.Omega.{arith}
 use mathlib.Core.List.{append-assoc, append-nil}
-use Rattle.rules.specs.Words.{ℕ, zero, suc, _+_, Bool, some, List, [], _∷_, _++_, drop, getElem?}
+use Rattle.rules.specs.Words.{ℕ, zero, suc, _+_, Bool, true, false, some, List, [], _∷_, _++_, drop, getElem?}
 use Rattle.rules.specs.Instruction.{Act, Sort, conditional, loop, Op, header, separator, end, ops}
 use Rattle.rules.specs.Numbers.{at}
 use Rattle.rules.specs.Nesting.{bracket, Body, nothing, single, looping, oneArm, twoArms}
-use Rattle.rules.specs.Partners.{Role, opens, ends, roleOf, role, endAt, separatorAt, endOf, headerOf}
+use Rattle.rules.specs.Partners.{Role, opens, ends, roleOf, role, stopAt, stopFrom, endOf, headerOf}
 use Rattle.rules.proofs.Partners.{backAt, back}
-use Rattle.faithful.specs.Items.{Stands, loop-item, one-arm, two-arms, Partnered, Belongs, by-itself, as-header, as-separator, as-end}
+use Rattle.faithful.specs.Items.{orElse, Stands, loop-item, one-arm, two-arms, Partnered, Belongs, by-itself, as-header, as-separator, as-end}
 use Rattle.faithful.specs.Promises.{Partners, PartnersFile}
 use Rattle.rules.proofs.Refusals.{admitted}
 use Rattle.faithful.proofs.Grammar.{grammar}
 use Rattle.faithful.proofs.Inner.Places.{clash, over, over-suc, over-length}
-use Rattle.faithful.proofs.Inner.Reading.{From, whole, next, from-drop, drop-at, from-of, from-over, seek, seeks-end, seeks-separator, seek-body, end-of, separator-of, back-one, back-body, header-of}
+use Rattle.faithful.proofs.Inner.Reading.{From, whole, next, from-drop, drop-at, from-of, from-over, stop-body, end-of, arm-of, back-one, back-body, header-of}
 
 -- ## An item's partners
 
@@ -36,9 +36,9 @@ unfolding role roleOf bracket
 own-header conditional v a = refl
 own-header loop v a = refl
 
-end-here : (b : Sort) (k : ℕ) (os : List Op) → seek endAt b 0 k (end b ∷ os) ≡ k
-unfolding seek endAt
-end-here b k os = rw (own-end b)
+end-here : (w : Bool) (b : Sort) (k : ℕ) (os : List Op) → stopFrom w b 0 k (end b ∷ os) ≡ k
+unfolding stopFrom stopAt
+end-here w b k os = rw (own-end b)
 
 header-here : {L : List Op} {j : ℕ} {b : Sort} {v : Bool} {a : Act} {os : List Op} → From L j (header b v a ∷ os) → back b L (suc j) 0 ≡ suc j
 unfolding backAt
@@ -47,39 +47,39 @@ header-here {L} {j} {b} {v} {a} t = back-one b t 0 ∙ ap (λ (r : Role). backAt
 closed-item : {L : List Op} {j : ℕ} {b : Sort} {v : Bool} {a : Act} {body : List Op} (rest : List Op) → Body body
     → From L j (header b v a ∷ (body ++ (end b ∷ rest))) → (endOf b L (suc j) ≡ suc (over body (suc j))) × (headerOf b L (suc (over body (suc j))) ≡ suc j)
 closed-item {j} {b} {body} rest y t = (
-  end-of t b ∙ seek-body seeks-end b y 0 (suc (suc j)) (end b ∷ rest) ∙ end-here b _ rest ∙ over-suc body (suc j),
+  end-of t b ∙ stop-body false b y 0 (suc (suc j)) (end b ∷ rest) ∙ end-here false b _ rest ∙ over-suc body (suc j),
   header-of (from-over body (next t)) b (own-end b) ∙ back-body b (end b ∷ rest) y (next t) 0 ∙ header-here t,
 )
 
 parted-item : {L : List Op} {j : ℕ} {v : Bool} {a : Act} {one two : List Op} (rest : List Op) → Body one → Body two
     → From L j (header conditional v a ∷ (one ++ (separator ∷ (two ++ (end conditional ∷ rest)))))
     → Partnered L conditional (suc j) (suc (over one (suc j))) (suc (over two (suc (over one (suc j)))))
-unfolding seek endAt separatorAt backAt role roleOf bracket
+unfolding orElse stopFrom stopAt backAt role roleOf bracket
 parted-item {L} {j} {one} {two} rest x y t =
     let t₁ = from-over one (next t) in
     let t₂ = from-over two (next t₁) in
     let k = over one (suc j) in
-    let second = seek-body seeks-end conditional y 0 (suc (suc k)) (end conditional ∷ rest) ∙ end-here conditional _ rest ∙ over-suc two (suc k) in
+    let second = stop-body false conditional y 0 (suc (suc k)) (end conditional ∷ rest) ∙ end-here false conditional _ rest ∙ over-suc two (suc k) in
     record {
       its-end =
-          end-of t conditional ∙ seek-body seeks-end conditional x 0 (suc (suc j)) _
-          ∙ ap (λ (q : ℕ). seek endAt conditional 0 (suc q) (two ++ (end conditional ∷ rest))) (over-suc one (suc j)) ∙ second;
+          end-of t conditional ∙ stop-body false conditional x 0 (suc (suc j)) _
+          ∙ ap (λ (q : ℕ). stopFrom false conditional 0 (suc q) (two ++ (end conditional ∷ rest))) (over-suc one (suc j)) ∙ second;
       its-header =
           header-of t₂ conditional refl ∙ back-body conditional (end conditional ∷ rest) y (next t₁) 0 ∙ back-one conditional t₁ 0
           ∙ back-body conditional (separator ∷ (two ++ (end conditional ∷ rest))) x (next t) 0 ∙ header-here t;
-      its-separator = λ e. separator-of t ∙ seek-body seeks-separator conditional x 0 (suc (suc j)) _ ∙ over-suc one (suc j);
+      its-arm = λ e. arm-of t ∙ stop-body true conditional x 0 (suc (suc j)) _ ∙ over-suc one (suc j);
       separator-end = λ i e. end-of t₁ conditional ∙ second;
     }
 
 partnered : (L : List Op) (b : Sort) (h k e : ℕ) → Stands L b h k e → Partnered L b h k e
-unfolding seek separatorAt role roleOf bracket
+unfolding orElse role roleOf bracket
 partnered L b h k e (loop-item {j = j} {body = body} rest d y) =
     let p = closed-item rest y (from d) in
     rw (← over-length body (suc j))
     (record {
       its-end = p .0;
       its-header = p .1;
-      its-separator = λ q. clash cc;
+      its-arm = λ q. clash cc;
       separator-end = λ i q. absurd (omega arith);
     })
 partnered L b h k e (one-arm {j = j} {body = body} rest d y) =
@@ -88,7 +88,7 @@ partnered L b h k e (one-arm {j = j} {body = body} rest d y) =
     (record {
       its-end = p .0;
       its-header = p .1;
-      its-separator = λ q. separator-of (from d) ∙ seek-body seeks-separator conditional y 0 (suc (suc j)) (end conditional ∷ rest);
+      its-arm = λ q. arm-of (from d) ∙ stop-body true conditional y 0 (suc (suc j)) (end conditional ∷ rest) ∙ end-here true conditional _ rest ∙ over-suc body (suc j);
       separator-end = λ i q. absurd (omega arith);
     })
 partnered L b h k e (two-arms {j = j} {one = one} {two = two} rest d x y) =

@@ -1,9 +1,9 @@
 -- Items of the grammar that stand in a list of records, and the partners that they have.
 use mathlib.Core.Path.{_≡_}
-use Rattle.rules.specs.Words.{ℕ, suc, _+_, Bool, List, _∷_, _++_, length, drop}
+use Rattle.rules.specs.Words.{ℕ, zero, suc, _+_, Bool, List, _∷_, _++_, length, drop}
 use Rattle.rules.specs.Instruction.{Act, Sort, conditional, loop, Op, header, separator, end}
 use Rattle.rules.specs.Nesting.{alone, bracket, Body}
-use Rattle.rules.specs.Partners.{endOf, separatorOf, headerOf}
+use Rattle.rules.specs.Partners.{endOf, armOf, headerOf}
 
 -- An item stands in L behind its first j records: its sort, the numbers of its header, of its separator (0 where it has none) and of
 -- its end.
@@ -18,11 +18,16 @@ pub data Stands (L : List Op) : Sort → ℕ → ℕ → ℕ → Type 0 where
       → drop j L ≡ header conditional v a ∷ (one ++ (separator ∷ (two ++ (end conditional ∷ rest)))) → Body one → Body two
       → Stands L conditional (suc j) (suc (length one + suc j)) (suc (length two + suc (length one + suc j)))
 
--- The numbers that stages and steps use are those.
+-- k, or e where there is no k.
+unfoldable pub orElse : ℕ → ℕ → ℕ
+orElse zero e = e
+orElse (suc k) e = suc k
+
+-- The numbers that stages and steps use are those. A header without separator takes its end as partner.
 pub record Partnered (L : List Op) (b : Sort) (h k e : ℕ) : Type 0 where
   pub its-end : endOf b L h ≡ e
   pub its-header : headerOf b L e ≡ h
-  pub its-separator : b ≡ conditional → separatorOf L h ≡ k
+  pub its-arm : b ≡ conditional → armOf L h ≡ orElse k e
   pub separator-end : (i : ℕ) → k ≡ suc i → endOf conditional L k ≡ e
 
 -- Record i is an item alone, or the header, the separator or the end of an item that stands in L.

@@ -11,7 +11,7 @@ use lib.Dec.{eqb}
 use Rattle.rules.specs.Record.{Rec, rec, count}
 use Rattle.rules.specs.Numbers.{at, past, names, moveTo}
 use Rattle.rules.specs.Instruction.{outside, push, pop, compare, loop, actOf, Op, written, decode, ops}
-use Rattle.rules.specs.Partners.{endOf, separatorOf}
+use Rattle.rules.specs.Partners.{endOf, armOf}
 use Rattle.rules.specs.Stack.{popped, top}
 use Rattle.rules.specs.Step.{Mem, Out, go, halt, withStack, Acted, did, stops, perform, agree, branch, leaving, does, deed, ask, stepAt, step}
 use Rattle.rules.proofs.Records.{recordAt, ops-length, ops-at}
@@ -94,8 +94,8 @@ module _ (n : ℕ) (m : Mem) where
       kinds (suc (suc (suc (suc (suc zero))))) e = refl
       kinds (suc (suc (suc (suc (suc (suc zero)))))) e = ap (λ k. go k m) (sym e)
       kinds (suc (suc (suc (suc (suc (suc (suc zero))))))) e = ap (λ k. go k m) (sym e)
-      kinds (suc (suc (suc (suc (suc (suc (suc (suc zero)))))))) e = plus (suc i) (past (separatorOf L i)) (suc i) p refl e
-      kinds (suc (suc (suc (suc (suc (suc (suc (suc (suc zero))))))))) e = minus (suc i) (past (separatorOf L i)) (suc i) p refl e
+      kinds (suc (suc (suc (suc (suc (suc (suc (suc zero)))))))) e = plus (suc i) (past (armOf L i)) (suc i) p refl e
+      kinds (suc (suc (suc (suc (suc (suc (suc (suc (suc zero))))))))) e = minus (suc i) (past (armOf L i)) (suc i) p refl e
       kinds (suc (suc (suc (suc (suc (suc (suc (suc (suc (suc zero)))))))))) e = ap (λ k. go k m) (sym e)
       kinds (suc (suc (suc (suc (suc (suc (suc (suc (suc (suc (suc zero))))))))))) e = ap (λ k. go k m) (sym e)
       kinds (suc (suc (suc (suc (suc (suc (suc (suc (suc (suc (suc (suc zero)))))))))))) e = plus (suc i) (past (endOf loop L i)) (suc i) p refl e

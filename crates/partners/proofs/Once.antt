@@ -3,9 +3,7 @@
 use mathlib.Core.Path.{_≡_}
 use Rattle.partners.proofs.role_of.Reads as role-of
 use Rattle.partners.proofs.conditional_end.Reads as conditional-end
-use Rattle.partners.proofs.separator_of.Reads as separator-of
-use Rattle.partners.proofs.conditional_header.Reads as conditional-header
-use Rattle.partners.proofs.item_separator.Reads as item-separator
+use Rattle.partners.proofs.arm_end.Reads as arm-end
 use Rattle.partners.proofs.loop_end.Reads as loop-end
 use Rattle.partners.proofs.loop_header.Reads as loop-header
 use Rattle.partners.proofs.labels.target.Reads as target
@@ -17,14 +15,8 @@ role-of-once κs a r r′ e e′ p q = cc
 conditional-end-once : (κs : _) (a : _) (r r′ : _) (e e′ : _) → conditional-end.Learnt κs a r e → conditional-end.Learnt κs a r′ e′ → r ≡ r′
 conditional-end-once κs a r r′ e e′ p q = cc
 
-separator-of-once : (κs : _) (a : _) (r r′ : _) (e e′ : _) → separator-of.Learnt κs a r e → separator-of.Learnt κs a r′ e′ → r ≡ r′
-separator-of-once κs a r r′ e e′ p q = cc
-
-conditional-header-once : (κs : _) (a : _) (r r′ : _) (e e′ : _) → conditional-header.Learnt κs a r e → conditional-header.Learnt κs a r′ e′ → r ≡ r′
-conditional-header-once κs a r r′ e e′ p q = cc
-
-item-separator-once : (κs : _) (a : _) (r r′ : _) (e e′ : _) → item-separator.Learnt κs a r e → item-separator.Learnt κs a r′ e′ → r ≡ r′
-item-separator-once κs a r r′ e e′ p q = cc
+arm-end-once : (κs : _) (a : _) (r r′ : _) (e e′ : _) → arm-end.Learnt κs a r e → arm-end.Learnt κs a r′ e′ → r ≡ r′
+arm-end-once κs a r r′ e e′ p q = cc
 
 loop-end-once : (κs : _) (a : _) (r r′ : _) (e e′ : _) → loop-end.Learnt κs a r e → loop-end.Learnt κs a r′ e′ → r ≡ r′
 loop-end-once κs a r r′ e e′ p q = cc

@@ -1,5 +1,4 @@
 -- Partners in the bytes of a routine, one record at a time.
---     from-start, separator-ahead     the one search to the right finds the ends and separators of the rules
 --     opened, passed, part-.., end-..     what it does at record k + 1, by that record's role
 --     back-..     the search to the left
 --     ended, header-none     the header of an end, and of a record that is no end of the sort
@@ -15,51 +14,15 @@ use borrow.Author.Tests.{leb-true, leb-false, ne-eqb}
 use Rattle.rules.specs.Record.{Rec, count, records}
 use Rattle.rules.specs.Instruction.{Sort, conditional, loop, Op, jump, decode, ops}
 use Rattle.rules.specs.Numbers.{at}
-use Rattle.rules.specs.Partners.{Role, opens, parts, ends, other, role, endAt, endFrom, separatorAt, separatorFrom, endOf, separatorOf, headerUpTo, headerOf}
+use Rattle.rules.specs.Partners.{Role, opens, parts, ends, other, role, stopAt, stopFrom, endOf, headerUpTo, headerOf}
 use Rattle.rules.proofs.Records.{recordAt, at-getD, ops-length, ops-none, ops-drop, ops-end}
-use Rattle.rules.proofs.Partners.{roleOfKind, role-kind, ops-role, end-here, end-out, roleAt, backAt, back, back-here, header-back}
+use Rattle.rules.proofs.Partners.{roleOfKind, role-kind, ops-role, stop-here, stop-out, roleAt, backAt, back, back-here, header-back}
 use Rattle.records.specs.Reading.{orNothing, recAt}
 use Rattle.partners.specs.declared.Role as said
 use Rattle.partners.specs.declared.Role.the-variants.{Opens, Parts, Ends, Other}
-use Rattle.partners.specs.Searching.{roleSaid, aheadAt, aheadFrom, ahead}
+use Rattle.partners.specs.Searching.{roleSaid, ahead}
 
 -- ## To the right
-
-end-at : (r : Role) (d k : ℕ) (f g : ℕ → ℕ) → ((e : ℕ) → f e ≡ g e) → aheadAt r false d k f ≡ endAt r d k g
-unfolding aheadAt endAt
-end-at opens d k f g h = h (suc d)
-end-at parts d k f g h = h d
-end-at ends zero k f g h = refl
-end-at ends (suc d) k f g h = h d
-end-at other d k f g h = h d
-
-ahead-end : (b : Sort) (d k : ℕ) (os : List Op) → aheadFrom b false d k os ≡ endFrom b d k os
-unfolding aheadFrom endFrom
-ahead-end b d k [] = refl
-ahead-end b d k (o ∷ os) = end-at (role b o) d k _ _ (λ e. ahead-end b e (suc k) os)
-
-separator-at : (r : Role) (d k : ℕ) (f g : ℕ → ℕ) → ((e : ℕ) → f e ≡ g e) → aheadAt r true d k f ≡ separatorAt r d k g
-unfolding aheadAt separatorAt
-separator-at opens d k f g h = h (suc d)
-separator-at parts zero k f g h = refl
-separator-at parts (suc d) k f g h = h (suc d)
-separator-at ends zero k f g h = refl
-separator-at ends (suc d) k f g h = h d
-separator-at other d k f g h = h d
-
-ahead-separator : (d k : ℕ) (os : List Op) → aheadFrom conditional true d k os ≡ separatorFrom d k os
-unfolding aheadFrom separatorFrom
-ahead-separator d k [] = refl
-ahead-separator d k (o ∷ os) = separator-at (role conditional o) d k _ _ (λ e. ahead-separator e (suc k) os)
-
-pub separator-none : (L : List Op) (i : ℕ) → i ≡ 0 → separatorOf L i ≡ 0
-unfolding separatorOf
-separator-none L i e = rw e
-
-pub separator-ahead : (L : List Op) (i : ℕ) → ¬ (i ≡ 0) → aheadFrom conditional true 0 (suc i) (drop i L) ≡ separatorOf L i
-unfolding separatorOf
-separator-ahead L zero h = absurd (h refl)
-separator-ahead L (suc i) h = ahead-separator 0 (suc (suc i)) (drop (suc i) L)
 
 -- What a role that was read means.
 abbrev pub roleMeant : said.Role → Role
@@ -80,67 +43,63 @@ told {r = r} e g = meant r ∙ ap roleMeant (sym e ∙ g)
 
 -- What is found behind record number k, with d items opened since.
 abbrev pub from : List ℕ → Sort → Bool → ℕ → ℕ → ℕ
-from s b parting d k = aheadFrom b parting d (suc k) (drop k (ops s))
+from s b parting d k = stopFrom parting b d (suc k) (drop k (ops s))
 
 pub from-start : (s : List ℕ) (b : Sort) (parting : Bool) (i : ℕ) → ahead b parting (ops s) i ≡ from s b parting 0 i
 unfolding endOf
-from-start s b false i = sym (ahead-end b 0 (suc i) (drop i (ops s)))
+from-start s b false i = refl
 from-start s b true i = refl
 
 pub from-out : (s : List ℕ) (b : Sort) (parting : Bool) (d k : ℕ) → count s ≤ k → from s b parting d k ≡ 0
-unfolding aheadFrom
-from-out s b parting d k h = ap (aheadFrom b parting d (suc k)) (ops-end s k h)
+unfolding stopFrom
+from-out s b parting d k h = ap (stopFrom parting b d (suc k)) (ops-end s k h)
 
 module _ (s : List ℕ) (b : Sort) (parting : Bool) (d k : ℕ) (h : k < count s) where
-  here : (r : Role) → roleOfKind b (getD s (8 * k) 0) ≡ r → from s b parting d k ≡ aheadAt r parting d (k + 1) (λ e. from s b parting e (k + 1))
-  unfolding aheadFrom
+  here : (r : Role) → roleOfKind b (getD s (8 * k) 0) ≡ r → from s b parting d k ≡ stopAt parting r d (k + 1) (λ e. from s b parting e (k + 1))
+  unfolding stopFrom
   here r e =
-      ap (aheadFrom b parting d (suc k)) (ops-drop s k h)
+      ap (stopFrom parting b d (suc k)) (ops-drop s k h)
       ∙ rw (role-kind b (recordAt s k), e)
-      (ap (λ (j : ℕ). aheadAt r parting d j (λ e. from s b parting e j)) (sym (add-one k)))
+      (ap (λ (j : ℕ). stopAt parting r d j (λ e. from s b parting e j)) (sym (add-one k)))
 
   pub opened : roleOfKind b (getD s (8 * k) 0) ≡ opens → from s b parting d k ≡ from s b parting (d + 1) (k + 1)
-  unfolding aheadAt
+  unfolding stopAt
   opened e = here opens e ∙ ap (λ (j : ℕ). from s b parting j (k + 1)) (sym (add-one d))
 
   pub passed : roleOfKind b (getD s (8 * k) 0) ≡ other → from s b parting d k ≡ from s b parting d (k + 1)
-  unfolding aheadAt
+  unfolding stopAt
   passed e = here other e
 
   pub part-passed : roleOfKind b (getD s (8 * k) 0) ≡ parts → parting ≡ false → from s b parting d k ≡ from s b parting d (k + 1)
-  unfolding aheadAt
+  unfolding stopAt
   part-passed e p = here parts e ∙ rw p
 
   -- A separator or an end inside an item that was opened since.
   pub part-inside : roleOfKind b (getD s (8 * k) 0) ≡ parts → ¬ (d ≡ 0) → from s b parting d k ≡ from s b parting d (k + 1)
-  unfolding aheadAt
+  unfolding stopAt
   part-inside e z = here parts e ∙ by parting d z
     where
-      by : (p : Bool) (d : ℕ) → ¬ (d ≡ 0) → aheadAt parts p d (k + 1) (λ e. from s b parting e (k + 1)) ≡ from s b parting d (k + 1)
+      by : (p : Bool) (d : ℕ) → ¬ (d ≡ 0) → stopAt p parts d (k + 1) (λ e. from s b parting e (k + 1)) ≡ from s b parting d (k + 1)
       by false d z = refl
       by true zero z = absurd (z refl)
       by true (suc d) z = refl
 
   pub end-inside : roleOfKind b (getD s (8 * k) 0) ≡ ends → ¬ (d ≡ 0) → from s b parting d k ≡ from s b parting (d - 1) (k + 1)
-  unfolding aheadAt
+  unfolding stopAt
   end-inside e z = here ends e ∙ by d z
     where
-      by : (d : ℕ) → ¬ (d ≡ 0) → aheadAt ends parting d (k + 1) (λ e. from s b parting e (k + 1)) ≡ from s b parting (d - 1) (k + 1)
+      by : (d : ℕ) → ¬ (d ≡ 0) → stopAt parting ends d (k + 1) (λ e. from s b parting e (k + 1)) ≡ from s b parting (d - 1) (k + 1)
       by zero z = absurd (z refl)
       by (suc d) z = rw sub-one
 
   -- One of the item itself.
   pub part-found : roleOfKind b (getD s (8 * k) 0) ≡ parts → parting ≡ true → d ≡ 0 → from s b parting d k ≡ k + 1
-  unfolding aheadAt
+  unfolding stopAt
   part-found e p z = here parts e ∙ rw (p, z)
 
-  pub end-found : roleOfKind b (getD s (8 * k) 0) ≡ ends → parting ≡ false → d ≡ 0 → from s b parting d k ≡ k + 1
-  unfolding aheadAt
-  end-found e p z = here ends e ∙ rw (p, z)
-
-  pub end-first : roleOfKind b (getD s (8 * k) 0) ≡ ends → parting ≡ true → d ≡ 0 → from s b parting d k ≡ 0
-  unfolding aheadAt
-  end-first e p z = here ends e ∙ rw (p, z)
+  pub end-found : roleOfKind b (getD s (8 * k) 0) ≡ ends → d ≡ 0 → from s b parting d k ≡ k + 1
+  unfolding stopAt
+  end-found e z = here ends e ∙ rw z
 
 -- ## To the left
 
@@ -186,16 +145,16 @@ module _ (s : List ℕ) (b : Sort) (d : ℕ) where
 -- ## The header of an end
 
 -- The end that a search finds is an end.
-found-ends : (b : Sort) (L : List Op) (n d k i : ℕ) → length L - k ≡ n → endFrom b d (suc k) (drop k L) ≡ suc i → roleAt b (at L (suc i)) ≡ ends
-unfolding endAt roleAt
-found-ends b L zero d k i h e = absurd (omega (arith, end-out L d k b (omega arith)))
+found-ends : (b : Sort) (L : List Op) (n d k i : ℕ) → length L - k ≡ n → stopFrom false b d (suc k) (drop k L) ≡ suc i → roleAt b (at L (suc i)) ≡ ends
+unfolding stopAt roleAt
+found-ends b L zero d k i h e = absurd (omega (arith, stop-out L false b d k (omega arith)))
 found-ends b L (suc n) d k i h e =
     let l : k < length L = omega arith in
-    by (role b (getD L k (jump 0))) d refl (λ x. found-ends b L n x (suc k) i (omega arith)) (sym (end-here L d k b (jump 0) l) ∙ e)
+    by (role b (getD L k (jump 0))) d refl (λ x. found-ends b L n x (suc k) i (omega arith)) (sym (stop-here L false b d k (jump 0) l) ∙ e)
   where
     by : (r : Role) (d : ℕ) → role b (getD L k (jump 0)) ≡ r
-        → ((x : ℕ) → endFrom b x (suc (suc k)) (drop (suc k) L) ≡ suc i → roleAt b (at L (suc i)) ≡ ends)
-        → endAt r d (suc k) (λ x. endFrom b x (suc (suc k)) (drop (suc k) L)) ≡ suc i → roleAt b (at L (suc i)) ≡ ends
+        → ((x : ℕ) → stopFrom false b x (suc (suc k)) (drop (suc k) L) ≡ suc i → roleAt b (at L (suc i)) ≡ ends)
+        → stopAt false r d (suc k) (λ x. stopFrom false b x (suc (suc k)) (drop (suc k) L)) ≡ suc i → roleAt b (at L (suc i)) ≡ ends
     by opens d q f e = f (suc d) e
     by parts d q f e = f d e
     by ends zero q f e =
@@ -209,9 +168,9 @@ no-header : (b : Sort) (L : List Op) (i h : ℕ) → ¬ (roleAt b (at L (suc i))
 unfolding headerUpTo endOf
 no-header b L i zero n = refl
 no-header b L i (suc h) n =
-    rw (ne-eqb (endFrom b 0 (suc (suc h)) (drop (suc h) L)) (suc i) (λ e. n (by e)), and-false) (no-header b L i h n)
+    rw (ne-eqb (stopFrom false b 0 (suc (suc h)) (drop (suc h) L)) (suc i) (λ e. n (by e)), and-false) (no-header b L i h n)
   where
-    by : endFrom b 0 (suc (suc h)) (drop (suc h) L) ≡ suc i → roleAt b (at L (suc i)) ≡ ends
+    by : stopFrom false b 0 (suc (suc h)) (drop (suc h) L) ≡ suc i → roleAt b (at L (suc i)) ≡ ends
     by e = found-ends b L (length L - suc h) 0 (suc h) i refl e
 
 -- The role of record number i by its kind; there is none where there is no such record.

@@ -9,8 +9,7 @@ ghost use mathlib.Core.Path.{_≡_};
 ghost use Prim.Native.Nat.{_≤_};
 ghost use Rattle.rules.specs.Record.{count};
 ghost use Rattle.rules.specs.Instruction.{conditional, loop, ops};
-ghost use Rattle.rules.specs.Partners.{endOf, separatorOf, headerOf};
-ghost use Rattle.rules.specs.Conditionals.{itsSeparator};
+ghost use Rattle.rules.specs.Partners.{endOf, armOf, headerOf};
 ghost use Rattle.rules.proofs.Partners.{roleOfKind, back};
 ghost use Rattle.partners.specs.Searching.{sortOf, roleSaid, ahead};
 
@@ -49,8 +48,8 @@ pub fn role_of(sort: Sort, kind: u8) -> Role
     }
 }
 
-// Behind record number i: the end of the item that is open there, or its separator where that is sought. Items opened on the way are
-// passed over by counting how many are open.
+// Behind record number i: the end of the item that is open there; or its separator, if separators count and one comes first. Items
+// opened on the way are passed over by counting how many are open.
 fn search_ahead(s: &[u8], i: usize, sort: Sort, parting: bool) -> usize
     ensures { λ r. ⌜ r ≡ ahead (sortOf sort) parting (ops (now (s .entry))) i ⌝ }
 {
@@ -69,7 +68,7 @@ fn search_ahead(s: &[u8], i: usize, sort: Sort, parting: bool) -> usize
             },
             Role::Ends => {
                 if depth == 0 {
-                    return if parting { 0 } else { k };
+                    return k;
                 }
                 depth -= 1;
             }
@@ -131,21 +130,11 @@ pub fn loop_end(s: &[u8], i: usize) -> usize
     search_ahead(s, i, Sort::Loop, false)
 }
 
-// The separator that belongs to the header at i.
-pub fn separator_of(s: &[u8], i: usize) -> usize
-    ensures { λ r. ⌜ r ≡ separatorOf (ops (now (s .entry))) i ⌝ }
+// Where the first arm of the conditional header at i ends: at its separator, or at its end where it has none.
+pub fn arm_end(s: &[u8], i: usize) -> usize
+    ensures { λ r. ⌜ r ≡ armOf (ops (now (s .entry))) i ⌝ }
 {
-    if i == 0 {
-        return 0;
-    }
     search_ahead(s, i, Sort::Conditional, true)
-}
-
-// The header that the conditional's end at i belongs to.
-pub fn conditional_header(s: &[u8], i: usize) -> usize
-    ensures { λ r. ⌜ r ≡ headerOf conditional (ops (now (s .entry))) i ⌝ }
-{
-    header_of(s, i, Sort::Conditional)
 }
 
 // The header that the loop's end at i belongs to.
@@ -153,12 +142,4 @@ pub fn loop_header(s: &[u8], i: usize) -> usize
     ensures { λ r. ⌜ r ≡ headerOf loop (ops (now (s .entry))) i ⌝ }
 {
     header_of(s, i, Sort::Loop)
-}
-
-// The separator of the item that ends at i.
-pub fn item_separator(s: &[u8], i: usize) -> usize
-    ensures { λ r. ⌜ r ≡ itsSeparator (ops (now (s .entry))) i ⌝ }
-{
-    let header = conditional_header(s, i);
-    separator_of(s, header)
 }

@@ -14,13 +14,13 @@ use Rattle.rules.specs.Record.{rec, bytesOf}
 use Rattle.rules.specs.Instruction.{push, pop, compare, outside, conditional, loop, Op, act, test, jump, label, goto2, header, separator, end, call, return, file}
 use Rattle.rules.specs.Refusals.{Told, told}
 use Rattle.rules.specs.Nesting.{nesting}
-use Rattle.rules.specs.Partners.{endOf, separatorOf}
+use Rattle.rules.specs.Partners.{endOf, armOf}
 use Rattle.rules.specs.Calls.{calls}
 use Rattle.rules.specs.Convert.{convert}
 use Rattle.rules.specs.Relative.{toRelative, toAbsolute}
 use Rattle.rules.specs.Stack.{stack, fresh}
 use Rattle.rules.specs.Run.{statusNumber, runs}
-use Rattle.rules.specs.Answers.{Call, checkRecords, checkRoutine, converting, absoluting, noState, runRoutine, runBase, stepRoutine, stepBase}
+use Rattle.rules.specs.Answers.{Call, checkRecords, checkRoutine, baseCount, converting, absoluting, noState, runRoutine, runBase, stepRoutine, stepBase}
 use Rattle.rules.proofs.Cases.{a, +a, -a, +a⟨}
 
 -- ## Checks
@@ -58,17 +58,24 @@ Checking =
 abbrev deep : List Op
 deep = calls (return ∷ replicate 299 (a 1))
 
+-- `+a1{; a2; }; a3`
+abbrev one-armed : List Op
+one-armed = +a⟨ 1 ∷ a 2 ∷ end conditional ∷ a 3 ∷ []
+
 unfoldable pub Lowering : Type 0
 Lowering =
-    -- A conditional without separator ends, in header and in }.
-    (convert (+a⟨ 1 ∷ a 2 ∷ end conditional ∷ a 3 ∷ []) ≡ -a 1 ∷ jump 0 ∷ a 2 ∷ jump 0 ∷ a 3 ∷ [])
+    -- A conditional without separator goes on behind its end, after a no and after its arm: alone, one inside another, and at the end.
+    (convert one-armed ≡ -a 1 ∷ jump 5 ∷ a 2 ∷ jump 5 ∷ a 3 ∷ [])
+    × (baseCount (file one-armed) ≡ 5)
+    × (convert (+a⟨ 1 ∷ +a⟨ 2 ∷ a 3 ∷ end conditional ∷ end conditional ∷ a 4 ∷ []) ≡ -a 1 ∷ jump 8 ∷ -a 2 ∷ jump 7 ∷ a 3 ∷ jump 7 ∷ jump 8 ∷ a 4 ∷ [])
+    × (convert (+a⟨ 1 ∷ a 2 ∷ end conditional ∷ []) ≡ -a 1 ∷ jump 0 ∷ a 2 ∷ jump 0 ∷ [])
     -- A return that is not the last record has the chain for n.
     × (convert (return ∷ a 1 ∷ []) ≡ test false (compare 2) ∷ jump 6 ∷ act pop ∷ jump 14 ∷ jump 14 ∷ test false (compare 1) ∷ jump 11 ∷ act pop ∷ jump 1 ∷ jump 13 ∷ jump 0 ∷ jump 13 ∷ jump 14 ∷ a 1 ∷ [])
     -- Pushed numbers stay source numbers, though the records they name stand further on.
     × (convert (call 3 ∷ call 3 ∷ a 1 ∷ []) ≡ act (push 2) ∷ jump 5 ∷ act (push 3) ∷ jump 5 ∷ a 1 ∷ [])
     -- Pairs are found however deep they nest.
     × (nesting deep ≡ 0)
-    × (separatorOf deep 1 ≡ 4)
+    × (armOf deep 1 ≡ 4)
     × (endOf conditional deep 1 ≡ 1501)
     -- ##3; a1; +a2 becomes forward 2, a1, +a2; ##k at k is forward 0, below it backward; ##0 is stop.
     × (toRelative (rec 4 3 0 ∷ rec 1 1 0 ∷ rec 2 2 0 ∷ []) ≡ rec 17 2 0 ∷ rec 1 1 0 ∷ rec 2 2 0 ∷ [])
@@ -85,11 +92,18 @@ Lowering =
 abbrev log : List Op → List ℕ → List ℕ
 log L replies = runs L replies (replicate 10 0) 99 .mem .log
 
+-- Ended after so many steps, with k replies used and actions logged.
+abbrev endedAfter : ℕ → ℕ → List ℕ → Call
+endedAfter n k log = record { answer = record { outcome = Stopped Ended; state = noState; steps = n; replies = k; actions = k }; log = log }
+
 unfoldable pub Running : Type 0
 Running =
-    -- A conditional without separator ends, in header and in }.
-    (runs (+a⟨ 1 ∷ a 2 ∷ end conditional ∷ a 3 ∷ []) (0 ∷ []) (0 ∷ 0 ∷ []) 9 .steps ≡ 1)
-    × (runs (+a⟨ 1 ∷ a 2 ∷ end conditional ∷ a 3 ∷ []) (1 ∷ 1 ∷ 1 ∷ []) (replicate 6 0) 9 .steps ≡ 3)
+    -- A conditional without separator goes on behind its end, in routine and base alike: on no, and on yes after its arm.
+    (runRoutine (file one-armed) (0 ∷ 1 ∷ []) (replicate 6 7) 9 ≡ endedAfter 2 2 (1 ∷ 0 ∷ 3 ∷ 0 ∷ 7 ∷ 7 ∷ []))
+    × (runBase (file (convert one-armed)) (0 ∷ 1 ∷ []) (replicate 6 7) 9 ≡ endedAfter 3 2 (1 ∷ 0 ∷ 3 ∷ 0 ∷ 7 ∷ 7 ∷ []))
+    × (runRoutine (file one-armed) (1 ∷ 1 ∷ 1 ∷ []) (replicate 6 7) 9 ≡ endedAfter 4 3 (1 ∷ 0 ∷ 2 ∷ 0 ∷ 3 ∷ 0 ∷ []))
+    × (runBase (file (convert one-armed)) (1 ∷ 1 ∷ 1 ∷ []) (replicate 6 7) 9 ≡ endedAfter 4 3 (1 ∷ 0 ∷ 2 ∷ 0 ∷ 3 ∷ 0 ∷ []))
+    × (runs (+a⟨ 1 ∷ a 2 ∷ end conditional ∷ []) (0 ∷ []) (0 ∷ 0 ∷ []) 9 .steps ≡ 1)
     -- A return that finds n+1 on top ends without a pop, and so does its chain.
     × (runs (jump 3 ∷ return ∷ call 2 ∷ []) [] [] 9 .mem .stack .depth ≡ 1)
     × (runs (convert (jump 3 ∷ return ∷ call 2 ∷ [])) [] [] 99 .mem .stack .depth ≡ 1)

@@ -1,16 +1,14 @@
 -- Partners by counting depth, one record at a time.
 --     roleOfKind, role-kind, ops-role     what a record is to the items of a sort, by its kind
---     end-here, end-out, separator-here, separator-out     to the right: the answer from record k + 1 on, by that record's role
---     endOf-is, separatorOf-is     where the search for an end or a separator starts
+--     stop-here, stop-out     to the right: the answer from record k + 1 on, by that record's role
+--     endOf-is, armOf-is     where the search for an end, or for the end of a first arm, starts
 --     backAt, back, back-here, header-back     to the left: the header of an end
---     backPartAt, backPart, backPart-here, separator-back     to the left: the separator of the item that ends here
--- All of them hold of every list. The search for an end's separator goes on to the header: the first separator met at depth 0 is
--- another one where an item has two, and belongs to no item where there is no header.
+-- All of them hold of every list.
 use mathlib.Core.Path.{_≡_, refl, sym, ap, _∙_}
 use Prim.Native.Nat.{ℕ, zero, suc, _*_, _≤_, _<_}
 use native.Mathlib.Nat.{add-zero}
 use native.Mathlib.Omega.{arith}
-use mathlib.Core.Bool.{cond, _&&_}
+use mathlib.Core.Bool.{Bool, true, false, cond, _&&_}
 use mathlib.Core.Option.{Option, none, some}
 use mathlib.Core.List.{List, [], _∷_, map}
 use lib.ListN.{length, drop, getD, drop-of-length-le, List·getD-map}
@@ -21,8 +19,7 @@ use Rattle.rules.specs.Record.{Rec, count}
 use Rattle.rules.specs.Instruction.{Sort, conditional, loop, Op, jump, actOf, written, decode, ops}
 use Rattle.rules.specs.Numbers.{at}
 use Rattle.rules.specs.Nesting.{bracket}
-use Rattle.rules.specs.Partners.{Role, opens, parts, ends, other, roleOf, role, endAt, endFrom, separatorAt, separatorFrom, endOf, separatorOf, opening, isHeader, headerUpTo, headerOf}
-use Rattle.rules.specs.Conditionals.{itsSeparator}
+use Rattle.rules.specs.Partners.{Role, opens, parts, ends, other, roleOf, role, stopAt, stopFrom, endOf, armOf, opening, isHeader, headerUpTo, headerOf}
 use Rattle.rules.proofs.Records.{at-getD, recordAt, ops-getD}
 use Rattle.rules.proofs.Instructions.{tabulate, tabulated}
 
@@ -53,53 +50,44 @@ ops-role b s k z h = ap (role b) (ops-getD s k z h) ∙ role-kind b (recordAt s 
 
 -- ## To the right
 
-module _ (L : List Op) (d k : ℕ) where
-  pub end-here : (b : Sort) (z : Op) → k < length L
-      → endFrom b d (suc k) (drop k L) ≡ endAt (role b (getD L k z)) d (suc k) (λ e. endFrom b e (suc (suc k)) (drop (suc k) L))
-  unfolding endFrom
-  end-here b z h = ap (endFrom b d (suc k)) (drop-cons L k z h)
+module _ (L : List Op) (w : Bool) (b : Sort) (d k : ℕ) where
+  pub stop-here : (z : Op) → k < length L
+      → stopFrom w b d (suc k) (drop k L) ≡ stopAt w (role b (getD L k z)) d (suc k) (λ e. stopFrom w b e (suc (suc k)) (drop (suc k) L))
+  unfolding stopFrom
+  stop-here z h = ap (stopFrom w b d (suc k)) (drop-cons L k z h)
 
-  pub end-out : (b : Sort) → length L ≤ k → endFrom b d (suc k) (drop k L) ≡ 0
-  unfolding endFrom
-  end-out b h = ap (endFrom b d (suc k)) (drop-of-length-le L {i = k} h)
+  pub stop-out : length L ≤ k → stopFrom w b d (suc k) (drop k L) ≡ 0
+  unfolding stopFrom
+  stop-out h = ap (stopFrom w b d (suc k)) (drop-of-length-le L {i = k} h)
 
-  pub separator-here : (z : Op) → k < length L
-      → separatorFrom d (suc k) (drop k L) ≡ separatorAt (role conditional (getD L k z)) d (suc k) (λ e. separatorFrom e (suc (suc k)) (drop (suc k) L))
-  unfolding separatorFrom
-  separator-here z h = ap (separatorFrom d (suc k)) (drop-cons L k z h)
-
-  pub separator-out : length L ≤ k → separatorFrom d (suc k) (drop k L) ≡ 0
-  unfolding separatorFrom
-  separator-out h = ap (separatorFrom d (suc k)) (drop-of-length-le L {i = k} h)
-
-pub endOf-is : (b : Sort) (L : List Op) (i : ℕ) → endOf b L i ≡ endFrom b 0 (suc i) (drop i L)
+pub endOf-is : (b : Sort) (L : List Op) (i : ℕ) → endOf b L i ≡ stopFrom false b 0 (suc i) (drop i L)
 unfolding endOf
 endOf-is b L i = refl
 
-pub separatorOf-is : (L : List Op) (i : ℕ) → separatorOf L (suc i) ≡ separatorFrom 0 (suc (suc i)) (drop (suc i) L)
-unfolding separatorOf
-separatorOf-is L i = refl
+pub armOf-is : (L : List Op) (i : ℕ) → armOf L i ≡ stopFrom true conditional 0 (suc i) (drop i L)
+unfolding armOf
+armOf-is L i = refl
 
 -- An end is found from k on, and at different depths it is another one.
-end-from : (b : Sort) (d k : ℕ) (os : List Op) (i : ℕ) → endFrom b d k os ≡ suc i → k ≤ suc i
-unfolding endFrom endAt
+end-from : (b : Sort) (d k : ℕ) (os : List Op) (i : ℕ) → stopFrom false b d k os ≡ suc i → k ≤ suc i
+unfolding stopFrom stopAt
 end-from b d k [] i e = absurd (omega arith)
 end-from b d k (o ∷ os) i e = by (role b o) d (λ x. end-from b x (suc k) os i) e
   where
-    by : (r : Role) (d : ℕ) → ((x : ℕ) → endFrom b x (suc k) os ≡ suc i → suc k ≤ suc i) → endAt r d k (λ x. endFrom b x (suc k) os) ≡ suc i → k ≤ suc i
+    by : (r : Role) (d : ℕ) → ((x : ℕ) → stopFrom false b x (suc k) os ≡ suc i → suc k ≤ suc i) → stopAt false r d k (λ x. stopFrom false b x (suc k) os) ≡ suc i → k ≤ suc i
     by opens d h e = let g = h (suc d) e in omega arith
     by parts d h e = let g = h d e in omega arith
     by ends zero h e = omega arith
     by ends (suc d) h e = let g = h d e in omega arith
     by other d h e = let g = h d e in omega arith
 
-pub end-once : (b : Sort) (d c k : ℕ) (os : List Op) (i : ℕ) → d < c → endFrom b d k os ≡ suc i → endFrom b c k os ≡ suc i → ⊥
-unfolding endFrom endAt
+pub end-once : (b : Sort) (d c k : ℕ) (os : List Op) (i : ℕ) → d < c → stopFrom false b d k os ≡ suc i → stopFrom false b c k os ≡ suc i → ⊥
+unfolding stopFrom stopAt
 end-once b d c k [] i l e g = omega arith
 end-once b d c k (o ∷ os) i l e g = by (role b o) d c l (λ x y z. end-once b x y (suc k) os i z) e g
   where
-    by : (r : Role) (d c : ℕ) → d < c → ((x y : ℕ) → x < y → endFrom b x (suc k) os ≡ suc i → endFrom b y (suc k) os ≡ suc i → ⊥)
-        → endAt r d k (λ x. endFrom b x (suc k) os) ≡ suc i → endAt r c k (λ x. endFrom b x (suc k) os) ≡ suc i → ⊥
+    by : (r : Role) (d c : ℕ) → d < c → ((x y : ℕ) → x < y → stopFrom false b x (suc k) os ≡ suc i → stopFrom false b y (suc k) os ≡ suc i → ⊥)
+        → stopAt false r d k (λ x. stopFrom false b x (suc k) os) ≡ suc i → stopAt false r c k (λ x. stopFrom false b x (suc k) os) ≡ suc i → ⊥
     by opens d c l h e g = h (suc d) (suc c) (omega arith) e g
     by parts d c l h e g = h d c l e g
     by ends d zero l h e g = omega arith
@@ -116,15 +104,6 @@ backAt parts d k on = on d
 backAt ends d k on = on (suc d)
 backAt other d k on = on d
 
--- m is the separator met last with d at 0.
-unfoldable pub backPartAt : Role → ℕ → ℕ → ℕ → (ℕ → ℕ → ℕ) → ℕ
-backPartAt opens zero m k on = m
-backPartAt opens (suc d) m k on = on d m
-backPartAt parts zero m k on = on 0 k
-backPartAt parts (suc d) m k on = on (suc d) m
-backPartAt ends d m k on = on (suc d) m
-backPartAt other d m k on = on d m
-
 unfoldable pub roleAt : Sort → Option Op → Role
 roleAt b none = other
 roleAt b (some o) = role b o
@@ -133,86 +112,47 @@ unfoldable pub back : Sort → List Op → ℕ → ℕ → ℕ
 back b L zero d = 0
 back b L (suc k) d = backAt (roleAt b (at L (suc k))) d (suc k) (λ e. back b L k e)
 
-unfoldable pub backPart : List Op → ℕ → ℕ → ℕ → ℕ
-backPart L zero d m = 0
-backPart L (suc k) d m = backPartAt (roleAt conditional (at L (suc k))) d m (suc k) (λ e n. backPart L k e n)
-
 module _ (L : List Op) (k : ℕ) (z : Op) (h : k < length L) where
   pub back-here : (b : Sort) (d : ℕ) → back b L (suc k) d ≡ backAt (role b (getD L k z)) d (suc k) (λ e. back b L k e)
   unfolding back roleAt
   back-here b d = rw (at-getD L k z h)
 
-  pub backPart-here : (d m : ℕ) → backPart L (suc k) d m ≡ backPartAt (role conditional (getD L k z)) d m (suc k) (λ e n. backPart L k e n)
-  unfolding backPart roleAt
-  backPart-here d m = rw (at-getD L k z h)
-
   header-here : (b : Sort) (i : ℕ)
-      → headerUpTo b L i (suc k) ≡ cond (opening (role b (getD L k z)) && eqb (endFrom b 0 (suc (suc k)) (drop (suc k) L)) i) (suc k) (headerUpTo b L i k)
+      → headerUpTo b L i (suc k) ≡ cond (opening (role b (getD L k z)) && eqb (stopFrom false b 0 (suc (suc k)) (drop (suc k) L)) i) (suc k) (headerUpTo b L i k)
   unfolding headerUpTo isHeader endOf
   header-here b i = rw (at-getD L k z h)
 
-back-on : (r : Role) (p : ℕ) (E H B : ℕ → ℕ) → ((d i : ℕ) → E 0 ≡ suc i → E (suc d) ≡ suc i → ⊥) → ((d i : ℕ) → endAt r d (suc p) E ≡ suc i → H (suc i) ≡ B d)
+back-on : (r : Role) (p : ℕ) (E H B : ℕ → ℕ) → ((d i : ℕ) → E 0 ≡ suc i → E (suc d) ≡ suc i → ⊥) → ((d i : ℕ) → stopAt false r d (suc p) E ≡ suc i → H (suc i) ≡ B d)
     → (d i : ℕ) → E d ≡ suc i → cond (opening r && eqb (E 0) (suc i)) (suc p) (H (suc i)) ≡ backAt r d (suc p) B
-unfolding endAt opening backAt
+unfolding stopAt opening backAt
 back-on other p E H B once h d i e = h d i e
 back-on parts p E H B once h d i e = h d i e
 back-on ends p E H B once h d i e = h (suc d) i e
 back-on opens p E H B once h zero i e = rw (eq-eqb (E 0) (suc i) e)
 back-on opens p E H B once h (suc d) i e = rw (ne-eqb (E 0) (suc i) (λ g. once d i g e)) (h d i e)
 
-part-on : (r : Role) (p : ℕ) (E S H P : ℕ → ℕ) (B : ℕ → ℕ → ℕ) → P (suc p) ≡ S 0 → ((d i : ℕ) → E 0 ≡ suc i → E (suc d) ≡ suc i → ⊥)
-    → ((d i : ℕ) → endAt r d (suc p) E ≡ suc i → P (H (suc i)) ≡ B d (separatorAt r d (suc p) S))
-    → (d i : ℕ) → E d ≡ suc i → P (cond (opening r && eqb (E 0) (suc i)) (suc p) (H (suc i))) ≡ backPartAt r d (S d) (suc p) B
-unfolding endAt separatorAt opening backPartAt
-part-on other p E S H P B s once h d i e = h d i e
-part-on parts p E S H P B s once h zero i e = h zero i e
-part-on parts p E S H P B s once h (suc d) i e = h (suc d) i e
-part-on ends p E S H P B s once h d i e = h (suc d) i e
-part-on opens p E S H P B s once h zero i e = rw (eq-eqb (E 0) (suc i) e) s
-part-on opens p E S H P B s once h (suc d) i e = rw (ne-eqb (E 0) (suc i) (λ g. once d i g e)) (h d i e)
-
-found-in : (L : List Op) (b : Sort) (d p k i : ℕ) → endFrom b d p (drop k L) ≡ suc i → k < length L
-unfolding endFrom
+found-in : (L : List Op) (b : Sort) (d p k i : ℕ) → stopFrom false b d p (drop k L) ≡ suc i → k < length L
+unfolding stopFrom
 found-in [] b d p zero i e = absurd (omega arith)
 found-in [] b d p (suc k) i e = absurd (omega arith)
 found-in (o ∷ L) b d p zero i e = omega arith
 found-in (o ∷ L) b d p (suc k) i e = omega (arith, found-in L b d p k i e)
 
 module _ (L : List Op) where
-  -- Where an end is found from here on at depth d, the search to the left at depth d finds its header, and its separator.
-  back-finds : (b : Sort) (z : Op) (k d i : ℕ) → endFrom b d (suc k) (drop k L) ≡ suc i → headerUpTo b L (suc i) k ≡ back b L k d
+  -- Where an end is found from here on at depth d, the search to the left at depth d finds its header.
+  back-finds : (b : Sort) (z : Op) (k d i : ℕ) → stopFrom false b d (suc k) (drop k L) ≡ suc i → headerUpTo b L (suc i) k ≡ back b L k d
   unfolding headerUpTo back
   back-finds b z zero d i e = refl
   back-finds b z (suc k) d i e =
       let h : k < length L = omega (arith, found-in L b d (suc (suc k)) (suc k) i e) in
       let os = drop (suc k) L in
       header-here L k z h b (suc i)
-      ∙ back-on (role b (getD L k z)) k (λ x. endFrom b x (suc (suc k)) os) (λ x. headerUpTo b L x k) (λ x. back b L k x)
-      (λ x y u v. end-once b 0 (suc x) (suc (suc k)) os y (omega arith) u v) (λ x j u. back-finds b z k x j (end-here L x k b z h ∙ u)) d i e
+      ∙ back-on (role b (getD L k z)) k (λ x. stopFrom false b x (suc (suc k)) os) (λ x. headerUpTo b L x k) (λ x. back b L k x)
+      (λ x y u v. end-once b 0 (suc x) (suc (suc k)) os y (omega arith) u v) (λ x j u. back-finds b z k x j (stop-here L false b x k z h ∙ u)) d i e
       ∙ sym (back-here L k z h b d)
-
-  part-finds : (z : Op) (k d i : ℕ) → endFrom conditional d (suc k) (drop k L) ≡ suc i
-      → separatorOf L (headerUpTo conditional L (suc i) k) ≡ backPart L k d (separatorFrom d (suc k) (drop k L))
-  unfolding headerUpTo backPart separatorOf
-  part-finds z zero d i e = refl
-  part-finds z (suc k) d i e =
-      let h : k < length L = omega (arith, found-in L conditional d (suc (suc k)) (suc k) i e) in
-      let os = drop (suc k) L in
-      ap (separatorOf L) (header-here L k z h conditional (suc i))
-      ∙ part-on (role conditional (getD L k z)) k (λ x. endFrom conditional x (suc (suc k)) os) (λ x. separatorFrom x (suc (suc k)) os) (λ x. headerUpTo conditional L x k) (separatorOf L) (λ x m. backPart L k x m)
-      (separatorOf-is L k) (λ x y u v. end-once conditional 0 (suc x) (suc (suc k)) os y (omega arith) u v)
-      (λ x j u. part-finds z k x j (end-here L x k conditional z h ∙ u) ∙ ap (backPart L k x) (separator-here L x k z h)) d i e
-      ∙ sym (backPart-here L k z h d (separatorFrom d (suc (suc k)) os))
 
   module _ (k : ℕ) (z : Op) (h : k < length L) where
     -- From the record before an end.
     pub header-back : (b : Sort) → role b (getD L k z) ≡ ends → headerOf b L (suc k) ≡ back b L k 0
-    unfolding headerOf endAt opening
-    header-back b r = header-here L k z h b (suc k) ∙ rw r (back-finds b z k 0 k (end-here L 0 k b z h ∙ rw r))
-
-    pub separator-back : role conditional (getD L k z) ≡ ends → itsSeparator L (suc k) ≡ backPart L k 0 0
-    unfolding itsSeparator headerOf endAt separatorAt opening
-    separator-back r =
-        ap (separatorOf L) (header-here L k z h conditional (suc k) ∙ rw r)
-        ∙ part-finds z k 0 k (end-here L 0 k conditional z h ∙ rw r)
-        ∙ ap (backPart L k 0) (separator-here L 0 k z h ∙ rw r)
+    unfolding headerOf stopAt opening
+    header-back b r = header-here L k z h b (suc k) ∙ rw r (back-finds b z k 0 k (stop-here L false b 0 k z h ∙ rw r))

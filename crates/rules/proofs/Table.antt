@@ -24,11 +24,11 @@ checking = (refl, refl, refl, refl, refl, refl, refl, refl, refl, refl, refl, re
 
 pub lowering : Lowering
 unfolding computes Lowering
-lowering = (refl, refl, refl, refl, refl, refl, refl, refl, refl, refl, refl)
+lowering = (refl, refl, refl, refl, refl, refl, refl, refl, refl, refl, refl, refl, refl, refl)
 
 pub running : Running
 unfolding computes Running
-running = (refl, refl, refl, refl, refl, refl, refl, refl, refl, refl)
+running = (refl, refl, refl, refl, refl, refl, refl, refl, refl, refl, refl, refl, refl)
 
 pub stepping : Stepping
 unfolding computes Stepping

@@ -3,12 +3,11 @@ use Rattle.rules.specs.Words.{ℕ, suc, _+_, _-_, _*_, Bool, true, not, 
 use Rattle.rules.specs.declared.Stack.{Stack}
 use Rattle.rules.specs.declared.Status.{Status}
 use Rattle.rules.specs.declared.Status.the-variants.{Ended, NoReply, LogFull, StackFull}
-use Rattle.rules.specs.Numbers.{at, given, past, names, moveTo}
+use Rattle.rules.specs.Numbers.{at, past, names, moveTo}
 use Rattle.rules.specs.Record.{lowByte, highByte}
 use Rattle.rules.specs.Instruction.{Act, outside, push, pop, compare, conditional, loop, Op, act, test, jump, label, goto, goto2, header, separator, end, call, return}
 use Rattle.rules.specs.Labels.{target, target2}
-use Rattle.rules.specs.Partners.{endOf, separatorOf, headerOf}
-use Rattle.rules.specs.Conditionals.{itsSeparator}
+use Rattle.rules.specs.Partners.{endOf, armOf, headerOf}
 use Rattle.rules.specs.Stack.{full, pushed, popped, top, nonempty, equals}
 
 -- ## What each record does, with its numbers worked out
@@ -20,8 +19,8 @@ pub data Deed : Type 0 where
   leave : Deed  -- back to the number on top of the stack
 
 -- Record i of L. The paper's list, one line for each form: do a, go to i+1; on yes i+1, on no i+2; to k; i+1; to the target, or end;
--- past the separator or loop end, a conditional without separator ends; past its end; i+1 with a separator, otherwise end; to the
--- loop header; push i+1, go to k; back to the top.
+-- past the separator, or past the end where there is none, or past the loop end; past its end; i+1; to the loop header; push i+1, go to
+-- k; back to the top.
 unfoldable pub deed : List Op → ℕ → Op → Deed
 deed L i (act a) = ask a true (suc i) (suc i)
 deed L i (test v a) = ask a v (suc i) (suc (suc i))
@@ -29,10 +28,10 @@ deed L i (jump k) = leap k
 deed L i (label s) = leap (suc i)
 deed L i (goto s) = leap (target L s)
 deed L i (goto2 s t) = leap (target2 L s t)
-deed L i (header conditional v a) = ask a v (suc i) (past (separatorOf L i))
+deed L i (header conditional v a) = ask a v (suc i) (past (armOf L i))
 deed L i (header loop v a) = ask a v (suc i) (past (endOf loop L i))
 deed L i separator = leap (past (endOf conditional L i))
-deed L i (end conditional) = leap (given (itsSeparator L i) (suc i))
+deed L i (end conditional) = leap (suc i)
 deed L i (end loop) = leap (headerOf loop L i)
 deed L i (call k) = enter (suc i) k
 deed L i return = leave

@@ -6,11 +6,10 @@ use native.Mathlib.Omega.{arith}
 use mathlib.Core.List.{List, [], _∷_, _++_}
 use borrow.Author.Tests.{ne-eqb, le-leb, lt-leb}
 use Rattle.rules.specs.Record.{Rec, rec, count}
-use Rattle.rules.specs.Numbers.{given, past}
+use Rattle.rules.specs.Numbers.{past}
 use Rattle.rules.specs.Instruction.{conditional, loop, ops}
 use Rattle.rules.specs.Labels.{target, target2}
-use Rattle.rules.specs.Partners.{endOf, separatorOf, headerOf}
-use Rattle.rules.specs.Conditionals.{itsSeparator}
+use Rattle.rules.specs.Partners.{endOf, armOf, headerOf}
 use Rattle.rules.proofs.SecondLevel.{groups}
 use Rattle.records.proofs.Writing.{copied}
 use Rattle.places.specs.declared.Stage.{Stage}
@@ -64,7 +63,7 @@ module _ (s : List ℕ) (i : ℕ) (r : Rec) {kind : ℕ} (e : kind ≡ r .kind) 
       unfolding looped
       loop-minus q = rw (← e, q, f, g, h, n)
 
-    module _ (n : p ≡ separatorOf (ops s) i) (h : k ≡ leads Conditionals s (past p)) where
+    module _ (n : p ≡ armOf (ops s) i) (h : k ≡ leads Conditionals s (past p)) where
       pub conditional-plus : kind ≡ 8 → parted s i r ≡ before (rec 3 x y) k
       unfolding parted
       conditional-plus q = rw (← e, q, f, g, h, n)
@@ -82,9 +81,9 @@ module _ (s : List ℕ) (i : ℕ) (r : Rec) {kind : ℕ} (e : kind ≡ r .kind) 
     unfolding parted
     conditional-parts n h q = rw (← e, q, h, n)
 
-  pub conditional-ends : {k : ℕ} → k ≡ leads Conditionals s (given (itsSeparator (ops s) i) (suc i)) → kind ≡ 11 → parted s i r ≡ to k
+  pub conditional-ends : {k : ℕ} → k ≡ leads Conditionals s (i + 1) → kind ≡ 11 → parted s i r ≡ to k
   unfolding parted
-  conditional-ends h q = rw (← e, q, h)
+  conditional-ends h q = rw (← e, q, h, add-one)
 
   pub loops-keep : ¬ (kind ≡ 12) → ¬ (kind ≡ 13) → ¬ (kind ≡ 14) → looped s i r ≡ kept Loops s r ∷ []
   unfolding looped
@@ -113,20 +112,6 @@ module _ (s : List ℕ) (j : ℕ) {k : ℕ} (e : k ≡ leads Calls s j) where
   pub chain-last : j ≡ 1 → chainOf s j ≡ link j k ++ to 0 ++ (rec 11 0 0 ∷ [])
   unfolding chainOf
   chain-last h = rw (e, h)
-
--- Where } leads: to i + 1 where there is a separator.
-module _ (s : List ℕ) (i : ℕ) {k p : ℕ} (e : p ≡ k) where
-  pub given-none : p ≡ 0 → leads Conditionals s (given k (suc i)) ≡ 0
-  unfolding given
-  given-none z = rw (← e, z) (leads-zero Conditionals s)
-
-  pub given-some : ¬ (p ≡ 0) → leads Conditionals s (i + 1) ≡ leads Conditionals s (given k (suc i))
-  unfolding given
-  given-some z = by k e
-    where
-      by : (k : ℕ) → p ≡ k → leads Conditionals s (i + 1) ≡ leads Conditionals s (given k (suc i))
-      by zero e = absurd (z e)
-      by (suc k) e = rw add-one
 
 -- ## The whole stage
 

@@ -1,11 +1,10 @@
 -- What a record becomes in each stage, by its kind, with its jumps sent on; and what a whole stage writes.
 use Rattle.rules.specs.Words.{ℕ, zero, suc, cond, List, [], _∷_, _++_, eqb, leb}
 use Rattle.rules.specs.Record.{Rec, rec, count}
-use Rattle.rules.specs.Numbers.{given, past}
+use Rattle.rules.specs.Numbers.{past}
 use Rattle.rules.specs.Instruction.{conditional, loop, ops}
 use Rattle.rules.specs.Labels.{target, target2}
-use Rattle.rules.specs.Partners.{endOf, separatorOf, headerOf}
-use Rattle.rules.specs.Conditionals.{itsSeparator}
+use Rattle.rules.specs.Partners.{endOf, armOf, headerOf}
 use Rattle.rules.proofs.SecondLevel.{groups}
 use Rattle.records.specs.Reading.{recAt}
 use Rattle.places.specs.declared.Stage.{Stage}
@@ -39,14 +38,14 @@ looped s i r =
     (cond (eqb (r .kind) 13) (before (rec 2 (r .x) (r .y)) (leads Loops s (past (endOf loop (ops s) i))))
     (cond (eqb (r .kind) 14) (to (leads Loops s (headerOf loop (ops s) i))) (kept Loops s r ∷ [])))
 
--- Stage 4: with k the separator's number, +a{ becomes -a and ##(k+1), -a{ becomes +a and the same; }{ becomes ##(k+1), k its end's
--- number; } at i becomes ##(i+1) if its item has a separator, else ##0.
+-- Stage 4: with k the separator's number, or the end's where there is none, +a{ becomes -a and ##(k+1), -a{ becomes +a and the same;
+-- }{ becomes ##(k+1), k its end's number; } at i becomes ##(i+1).
 unfoldable pub parted : List ℕ → ℕ → Rec → List Rec
 parted s i r =
-    cond (eqb (r .kind) 8) (before (rec 3 (r .x) (r .y)) (leads Conditionals s (past (separatorOf (ops s) i))))
-    (cond (eqb (r .kind) 9) (before (rec 2 (r .x) (r .y)) (leads Conditionals s (past (separatorOf (ops s) i))))
+    cond (eqb (r .kind) 8) (before (rec 3 (r .x) (r .y)) (leads Conditionals s (past (armOf (ops s) i))))
+    (cond (eqb (r .kind) 9) (before (rec 2 (r .x) (r .y)) (leads Conditionals s (past (armOf (ops s) i))))
     (cond (eqb (r .kind) 10) (to (leads Conditionals s (past (endOf conditional (ops s) i))))
-    (cond (eqb (r .kind) 11) (to (leads Conditionals s (given (itsSeparator (ops s) i) (suc i)))) (kept Conditionals s r ∷ []))))
+    (cond (eqb (r .kind) 11) (to (leads Conditionals s (suc i))) (kept Conditionals s r ∷ []))))
 
 -- Any other record stays.
 unfoldable pub group : Stage → List ℕ → ℕ → List Rec

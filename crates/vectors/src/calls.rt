@@ -92,9 +92,7 @@ fn print_asked(what: u8) {
         7 => word(b" loop end of "),
         8 => word(b" loop header of "),
         9 => word(b" end of "),
-        10 => word(b" header of "),
-        11 => word(b" separator of "),
-        12 => word(b" separator before the end "),
+        10 => word(b" end of the first arm of "),
         _ => word(b" target of "),
     }
 }
@@ -105,10 +103,8 @@ fn found(what: u8, s: &[u8], x: u16, y: u16) -> usize {
         7 => partners::loop_end(s, i),
         8 => partners::loop_header(s, i),
         9 => partners::conditional_end(s, i),
-        10 => partners::conditional_header(s, i),
-        11 => partners::separator_of(s, i),
-        12 => partners::item_separator(s, i),
-        13 => partners::target(s, x),
+        10 => partners::arm_end(s, i),
+        11 => partners::target(s, x),
         _ => partners::target2(s, x, y),
     }
 }

@@ -11,38 +11,26 @@ use borrow.Author.Tests.{eqb-true, eqb-false, leb-true, leb-false}
 use Rattle.rules.specs.Record.{rec, count}
 use Rattle.rules.specs.Instruction.{Sort, conditional, loop, Op, ops}
 use Rattle.rules.specs.Numbers.{given, past}
-use Rattle.rules.specs.Partners.{Role, opens, parts, ends, other, role, endAt, endFrom, separatorAt, separatorFrom, endOf, separatorOf}
+use Rattle.rules.specs.Partners.{Role, opens, parts, ends, other, role, stopAt, stopFrom, endOf, armOf}
 use Rattle.rules.proofs.Records.{ops-length}
 use Rattle.records.specs.Reading.{recAt}
 use Rattle.records.proofs.Reading.{rec-zero, rec-none}
 use Rattle.ways.specs.Places.{places, placeFor}
 
-end-from : (b : Sort) (d k : ℕ) (os : List Op) → endFrom b d (suc k) os ≤ k + length os
-unfolding endFrom endAt
-end-from b d k [] = omega arith
-end-from b d k (o ∷ os) = by (role b o) d (λ e. omega (arith, end-from b e (suc k) os))
+stop-from : (w : Bool) (b : Sort) (d k : ℕ) (os : List Op) → stopFrom w b d (suc k) os ≤ k + length os
+unfolding stopFrom stopAt
+stop-from w b d k [] = omega arith
+stop-from w b d k (o ∷ os) = by w (role b o) d (λ e. omega (arith, stop-from w b e (suc k) os))
   where
-    by : (r : Role) (d : ℕ) → ((e : ℕ) → endFrom b e (suc (suc k)) os ≤ k + length (o ∷ os))
-        → endAt r d (suc k) (λ e. endFrom b e (suc (suc k)) os) ≤ k + length (o ∷ os)
-    by opens d on = on (suc d)
-    by parts d on = on d
-    by ends zero on = omega arith
-    by ends (suc d) on = on d
-    by other d on = on d
-
-separator-from : (d k : ℕ) (os : List Op) → separatorFrom d (suc k) os ≤ k + length os
-unfolding separatorFrom separatorAt
-separator-from d k [] = omega arith
-separator-from d k (o ∷ os) = by (role conditional o) d (λ e. omega (arith, separator-from e (suc k) os))
-  where
-    by : (r : Role) (d : ℕ) → ((e : ℕ) → separatorFrom e (suc (suc k)) os ≤ k + length (o ∷ os))
-        → separatorAt r d (suc k) (λ e. separatorFrom e (suc (suc k)) os) ≤ k + length (o ∷ os)
-    by opens d on = on (suc d)
-    by parts zero on = omega arith
-    by parts (suc d) on = on (suc d)
-    by ends zero on = omega arith
-    by ends (suc d) on = on d
-    by other d on = on d
+    by : (v : Bool) (r : Role) (d : ℕ) → ((e : ℕ) → stopFrom w b e (suc (suc k)) os ≤ k + length (o ∷ os))
+        → stopAt v r d (suc k) (λ e. stopFrom w b e (suc (suc k)) os) ≤ k + length (o ∷ os)
+    by v opens d on = on (suc d)
+    by false parts d on = on d
+    by true parts zero on = omega arith
+    by true parts (suc d) on = on (suc d)
+    by v ends zero on = omega arith
+    by v ends (suc d) on = on d
+    by v other d on = on d
 
 -- A record that has a kind stands in the file, and so does its partner.
 module _ (s : List ℕ) (i : ℕ) (h : 0 < recAt s i .kind) where
@@ -60,38 +48,33 @@ module _ (s : List ℕ) (i : ℕ) (h : 0 < recAt s i .kind) where
       by true e = leb-true i (count s) e
       by false e = let z = rec-none s i (leb-false i (count s) e) in absurd (omega (arith, rw z at h))
 
+  stop-in : (w : Bool) (b : Sort) → stopFrom w b 0 (suc i) (drop i (ops s)) ≤ count s
+  stop-in w b = omega (arith, in-file, stop-from w b 0 i (drop i (ops s)), length-drop i (ops s), ops-length s)
+
   pub end-in : (b : Sort) → endOf b (ops s) i ≤ count s
   unfolding endOf
-  end-in b = omega (arith, in-file, end-from b 0 i (drop i (ops s)), length-drop i (ops s), ops-length s)
+  end-in b = stop-in false b
 
-  pub separator-in : separatorOf (ops s) i ≤ count s
-  unfolding separatorOf
-  separator-in = by i in-file
-    where
-      by : (i : ℕ) → i ≤ count s → separatorOf (ops s) i ≤ count s
-      by zero l = omega arith
-      by (suc i) l = omega (arith, separator-from 0 (suc i) (drop (suc i) (ops s)), length-drop (suc i) (ops s), ops-length s)
+  pub arm-in : armOf (ops s) i ≤ count s
+  unfolding armOf
+  arm-in = stop-in true conditional
 
-pub given-none : (k x : ℕ) → k ≡ 0 → given k x ≡ 0
-unfolding given
-given-none k x e = rw e
+pub past-none : (k : ℕ) → k ≡ 0 → past k ≡ 0
+unfolding past given
+past-none k e = rw e
 
-pub given-some : (k x : ℕ) → ¬ (k ≡ 0) → given k x ≡ x
-unfolding given
-given-some zero x h = absurd (h refl)
-given-some (suc k) x h = refl
-
-pub past-of : (k j r : ℕ) → k ≡ j → r ≡ given k (k + 1) → r ≡ past j
-unfolding past
-past-of k j r e h = h ∙ rw (add-one, e)
+pub past-some : (k : ℕ) → ¬ (k ≡ 0) → past k ≡ k + 1
+unfolding past given
+past-some zero h = absurd (h refl)
+past-some (suc k) h = omega arith
 
 -- The kinds that come in twos, and those of no place.
 module _ (L : List Op) (i x y : ℕ) where
-  pub place-header : (k : ℕ) → 8 ≤ k → k ≤ 9 → placeFor L i k x y ≡ past (separatorOf L i)
+  pub place-header : (k : ℕ) → 8 ≤ k → k ≤ 9 → placeFor L i k x y ≡ past (armOf L i)
   unfolding placeFor places
   place-header k l h = by (eqb k 8) refl
     where
-      by : (b : Bool) → eqb k 8 ≡ b → getD (places L i x y) k 0 ≡ past (separatorOf L i)
+      by : (b : Bool) → eqb k 8 ≡ b → getD (places L i x y) k 0 ≡ past (armOf L i)
       by true e = rw (eqb-true k 8 e)
       by false e = let z : k ≡ 9 = omega (arith, eqb-false k 8 e) in rw z
 

@@ -1,19 +1,18 @@
 -- The one number that a step needs besides its record's own fields: where a goto or a bracket leads.
 use Rattle.rules.specs.Words.{ℕ, suc, List, [], _∷_, getD}
-use Rattle.rules.specs.Numbers.{given, past}
+use Rattle.rules.specs.Numbers.{past}
 use Rattle.rules.specs.Instruction.{conditional, loop, Op, ops}
 use Rattle.rules.specs.Labels.{target, target2}
-use Rattle.rules.specs.Partners.{endOf, separatorOf, headerOf}
-use Rattle.rules.specs.Conditionals.{itsSeparator}
+use Rattle.rules.specs.Partners.{endOf, armOf, headerOf}
 use Rattle.records.specs.Reading.{recAt}
 
--- Of record i of L, by its kind from 0 on: a goto to its target; a header past its separator or loop end; a separator past its end;
--- a } to i+1 if its item has a separator; a loop end to its header. 0 for any other kind.
+-- Of record i of L, by its kind from 0 on: a goto to its target; a header past its first arm or loop end; a separator past its end;
+-- a } to i+1; a loop end to its header. 0 for any other kind.
 unfoldable pub places : List Op → ℕ → ℕ → ℕ → List ℕ
 places L i x y =
     0 ∷ 0 ∷ 0 ∷ 0 ∷ 0 ∷ 0
     ∷ target L x ∷ target2 L x y
-    ∷ past (separatorOf L i) ∷ past (separatorOf L i) ∷ past (endOf conditional L i) ∷ given (itsSeparator L i) (suc i)
+    ∷ past (armOf L i) ∷ past (armOf L i) ∷ past (endOf conditional L i) ∷ suc i
     ∷ past (endOf loop L i) ∷ past (endOf loop L i) ∷ headerOf loop L i ∷ []
 
 unfoldable pub placeFor : List Op → ℕ → ℕ → ℕ → ℕ → ℕ

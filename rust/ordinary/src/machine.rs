@@ -314,22 +314,13 @@ impl Routine {
     }
 }
 
-/// A header's body, or "past the separator or loop end; a conditional without
-/// separator ends".
+/// A header's body, or "past the separator or loop end"; and past its `}` if it
+/// has no separator, which "takes its `}` as partner" (request C-12).
 fn after_header(entered: bool, i: usize, other: usize) -> usize {
     if entered {
         i + 1
     } else {
-        past(other)
-    }
-}
-
-/// One past a record, or the end if there is no such record.
-fn past(k: usize) -> usize {
-    if k == 0 {
-        0
-    } else {
-        k + 1
+        other + 1
     }
 }
 
@@ -346,13 +337,12 @@ impl Program for Routine {
         Ok(match kind {
             ACTION | YES_TEST | NO_TEST => after_action(kind, i, outside.act(x)?),
             JUMP => x.into(),
-            LABEL => i + 1,
+            // "That `}` passes to the next record": so every `}` does.
+            LABEL | END => i + 1,
             GOTO | CHAINED_GOTO => other,
             YES_BLOCK | YES_LOOP => after_header(outside.act(x)?, i, other),
             NO_BLOCK | NO_LOOP => after_header(!outside.act(x)?, i, other),
-            SEPARATOR => past(other),
-            END if other == 0 => 0,
-            END => i + 1,
+            SEPARATOR => other + 1,
             LOOP_END => other,
             CALL => {
                 state.push((i + 1) as u16)?;

@@ -43,13 +43,12 @@ pub fn misfit(records: &[Record]) -> Option<usize> {
 ///
 /// | record | partner |
 /// |---|---|
-/// | conditional's header | its separator |
+/// | conditional's header | its separator, or its end if it has no separator |
 /// | separator | its end |
-/// | conditional's end | its separator |
 /// | loop's header | its end |
 /// | loop's end | its header |
 ///
-/// 0 where there is none. The partner of record i stands at index i, and
+/// 0 for every other record. The partner of record i stands at index i, and
 /// index 0 belongs to no record. Pairs wait on a list that grows as deep as the
 /// records nest: "the chain nests as deep as the routine is long."
 pub fn partners(records: &[Record]) -> Vec<usize> {
@@ -68,10 +67,7 @@ pub fn partners(records: &[Record]) -> Vec<usize> {
             }
             END => {
                 if let Some(latest) = open.pop() {
-                    if records[latest - 1].kind == SEPARATOR {
-                        partner[latest] = i;
-                        partner[i] = latest;
-                    }
+                    partner[latest] = i;
                 }
             }
             LOOP_END => {

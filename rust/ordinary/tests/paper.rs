@@ -167,6 +167,74 @@ fn nesting_of_any_depth() {
     );
 }
 
+// A block with one arm (request C-12)
+
+/// Runs a routine and its base on these replies: both end, and do the same.
+fn both_log(text: &str, replies: &[u8], steps: [u64; 2], actions: &[u16]) {
+    let (source, source_log) = run_of_routine(text, replies, 1_000);
+    let (base, base_log) = run_of_its_base(text, replies, 1_000);
+    assert_eq!([source.status, base.status], [Status::Ended; 2], "{text}");
+    assert_eq!([source.steps, base.steps], steps, "{text} {replies:?}");
+    assert_eq!(source.replies, base.replies, "{text} {replies:?}");
+    assert_eq!(source_log, actions, "{text} {replies:?}");
+    assert_eq!(base_log, actions, "{text} {replies:?}");
+}
+
+#[test]
+fn a_block_with_one_arm_goes_on_behind_it() {
+    let text = "+a1{; a2; }; a3";
+    assert_eq!(written_base(text), "-a1; ##5; a2; ##5; a3");
+    both_log(text, &[0, 1], [2, 3], &[1, 3]);
+    both_log(text, &[1, 1, 1], [4, 4], &[1, 2, 3]);
+    let exchanged = "-a1{; a2; }; a3";
+    assert_eq!(written_base(exchanged), "+a1; ##5; a2; ##5; a3");
+    both_log(exchanged, &[1, 1], [2, 3], &[1, 3]);
+    both_log(exchanged, &[0, 1, 1], [4, 4], &[1, 2, 3]);
+}
+
+#[test]
+fn blocks_with_one_arm_in_one_another() {
+    let text = "+a1{; +a2{; a3; }; a4; }; a5";
+    let base = "-a1; ##9; -a2; ##7; a3; ##7; a4; ##9; a5";
+    assert_eq!(written_base(text), base);
+    both_log(text, &[0, 1], [2, 3], &[1, 5]);
+    both_log(text, &[1, 0, 1, 1], [5, 6], &[1, 2, 4, 5]);
+    both_log(text, &[1; 5], [7, 7], &[1, 2, 3, 4, 5]);
+    // One arm within the second of two, and in a loop.
+    let text = "-a9{*; +a1{; a2; }{; +a3{; a4; }; }; *}; a5";
+    both_log(
+        text,
+        &[0, 0, 0, 0, 0, 1, 1, 1, 1],
+        [14, 18],
+        &[9, 1, 3, 9, 1, 3, 4, 9, 5],
+    );
+}
+
+#[test]
+fn a_block_with_one_arm_at_the_end() {
+    let text = "a1; +a2{; a3; }";
+    assert_eq!(written_base(text), "a1; -a2; ##0; a3; ##0");
+    both_log(text, &[1, 0], [2, 3], &[1, 2]);
+    both_log(text, &[1, 1, 1], [4, 4], &[1, 2, 3]);
+    // Two that end together: the inner one's } passes to the outer one's.
+    let text = "+a1{; +a2{; }; }";
+    assert_eq!(written_base(text), "-a1; ##0; -a2; ##6; ##6; ##0");
+    both_log(text, &[1, 0], [3, 4], &[1, 2]);
+}
+
+#[test]
+fn lengths_are_the_records_and_one_for_each_header() {
+    for (text, length) in [
+        ("+a1{; }", 3),
+        ("+a1{; a2; }; a3", 5),
+        ("+a1{; a2; }{; }; a3", 6),
+        ("+a1{; +a2{; a3; }; a4; }; a5", 9),
+    ] {
+        let base = base_of(&seq(text)).map(|base| base.len() / 8);
+        assert_eq!(base, Ok(length), "{text}");
+    }
+}
+
 const CALLER: &str = "R##4; a1; ##0; a2; ##R";
 
 #[test]
@@ -365,7 +433,7 @@ fn statuses_are_tried_in_order() {
 
 #[test]
 fn one_step_of_each_kind() {
-    let cases: [(&str, u32, &[u8], u32); 30] = [
+    let cases: [(&str, u32, &[u8], u32); 34] = [
         ("a1; a1", 1, &[0], 2),
         ("a1; a1", 2, &[1], 0),
         ("+a1; a1; a1", 1, &[1], 2),
@@ -386,8 +454,12 @@ fn one_step_of_each_kind() {
         ("-a1{; a1; }{; a2; }; a3", 1, &[0], 2),
         ("-a1{; a1; }{; a2; }; a3", 3, &[], 6),
         ("-a1{; a1; }{; a2; }; a3", 5, &[], 6),
-        ("+a1{; a1; }; a3", 1, &[0], 0),
-        ("+a1{; a1; }; a3", 3, &[], 0),
+        ("+a1{; a1; }; a3", 1, &[1], 2),
+        ("+a1{; a1; }; a3", 1, &[0], 4),
+        ("-a1{; a1; }; a3", 1, &[1], 4),
+        ("+a1{; a1; }; a3", 3, &[], 4),
+        ("a1; +a1{; a1; }", 2, &[0], 0),
+        ("a1; +a1{; a1; }", 4, &[], 0),
         ("+a1{*; a1; *}; a3", 1, &[1], 2),
         ("+a1{*; a1; *}; a3", 1, &[0], 4),
         ("-a1{*; a1; *}; a3", 1, &[1], 4),

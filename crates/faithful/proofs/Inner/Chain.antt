@@ -11,14 +11,14 @@ use Rattle.rules.specs.Words.{ℕ, zero, suc, _+_, Bool, true, false, cond, Opt
 use Rattle.rules.specs.Instruction.{pop, compare, conditional, Op, act, jump, header, separator, end}
 use Rattle.rules.specs.Numbers.{at, given, past, names, moveTo}
 use Rattle.rules.specs.Nesting.{bracket, Body, nothing, single, twoArms}
-use Rattle.rules.specs.Partners.{role, roleOf, separatorAt}
+use Rattle.rules.specs.Partners.{role, roleOf, stopAt, stopFrom}
 use Rattle.rules.specs.SecondLevel.{members, sent}
 use Rattle.rules.specs.Calls.{chain}
 use Rattle.rules.specs.Stack.{top, popped, nonempty, equals}
 use Rattle.rules.specs.Step.{deed, Mem, withStack, did, perform, Out, go, halt, agree, branch, leaving, does, step}
 use Rattle.faithful.proofs.Inner.Places.{clash, in-or-out, move-in}
 use Rattle.faithful.proofs.Inner.Simulation.{forkCost, linkCost, cost, costAt, step-is, cost-is, Way, first, in-place, jumped}
-use Rattle.faithful.proofs.Inner.Reading.{From, next, from-at, from-length, separator-of, seek}
+use Rattle.faithful.proofs.Inner.Reading.{From, next, from-at, from-length, arm-of}
 
 -- ## What it is
 
@@ -94,11 +94,11 @@ module _ (L′ : List Op) (n : ℕ) (P Q : ℕ → ℕ) (goes : (t : ℕ) → mo
   -- One link: on a match it pops and goes to j + 1, else it goes on to its second arm, which stands four places further.
   module _ (j q : ℕ) (os : List Op) (h : suc j ≤ n) (l : 1 ≤ length os) (t : From L′ q (linked Q j os)) (m : Mem) where
     asks : (b : Bool) → equals (top (m .stack)) (suc j) ≡ b → step L′ (suc q) m ≡ go (cond b (suc (suc q)) (suc (suc (suc (suc (suc q)))))) m
-    unfolding does deed perform branch agree past given seek separatorAt role roleOf bracket
+    unfolding does deed perform branch agree past given stopFrom stopAt role roleOf bracket
     asks b e =
         let t₄ = from-length (next (next (next (next t)))) in
         step-is L′ (suc q) _ m (from-at t)
-        ∙ ap (λ (k : ℕ). go (cond (equals (top (m .stack)) (suc j)) (moveTo (length L′) (suc (suc q))) (moveTo (length L′) (past k))) m) (separator-of t)
+        ∙ ap (λ (k : ℕ). go (cond (equals (top (m .stack)) (suc j)) (moveTo (length L′) (suc (suc q))) (moveTo (length L′) (past k))) m) (arm-of t)
         ∙ rw (e, in-place L′ n P (suc (suc q)) _ (from-at (next t)), move-in (length L′) (suc (suc (suc (suc (suc q))))) (omega arith))
 
     costs : (b : Bool) → equals (top (m .stack)) (suc j) ≡ b → costAt L′ (suc q) m ≡ cond b 1 2

@@ -1,5 +1,5 @@
--- Reading on from a record: what stands there, what the search for an end or a separator to the right and for a header to the left
--- has still to read, and that a body is read over by every such search.
+-- Reading on from a record: what stands there, what the search for an end to the right and for a header to the left has
+-- still to read, and that a body is read over by every such search.
 use mathlib.Core.Path.{_≡_, refl, sym, ap, _∙_, subst, fun-ext}
 use Prim.Native.Nat.{_<_}
 use native.Mathlib.Nat.{add-zero}
@@ -7,9 +7,9 @@ use native.Mathlib.Omega.{arith}
 use mathlib.Core.List.{tail, head?, append-assoc, append-nil}
 use Rattle.rules.specs.Words.{ℕ, zero, suc, _+_, Bool, true, false, cond, _&&_, Option, none, some, List, [], _∷_, _++_, length, drop, getD, getElem?}
 use Rattle.rules.specs.Instruction.{Act, Sort, conditional, loop, Op, header, separator, end}
-use Rattle.rules.specs.Numbers.{at, given, past}
+use Rattle.rules.specs.Numbers.{at, past}
 use Rattle.rules.specs.Nesting.{alone, bracket, Body, nothing, single, looping, oneArm, twoArms}
-use Rattle.rules.specs.Partners.{Role, opens, parts, ends, other, roleOf, role, endAt, endFrom, separatorAt, separatorFrom, endOf, separatorOf, opening, isHeader, headerUpTo, headerOf}
+use Rattle.rules.specs.Partners.{Role, opens, parts, ends, other, roleOf, role, stopAt, stopFrom, endOf, armOf, opening, isHeader, headerUpTo, headerOf}
 use Rattle.rules.proofs.Records.{at-getD}
 use Rattle.rules.proofs.Partners.{backAt, roleAt, back, header-back}
 use Rattle.faithful.proofs.Inner.Places.{clash, over, over-append}
@@ -136,98 +136,50 @@ by-role {b} {S} {A} R = record {
     turn conditional R s h k os = R .turning s h k _ os refl
     turn loop R s h k os = R .passing s k _ os refl
 
--- ## To the right: what the searches for an end and for a separator share
+-- ## To the right: reading on to an end, or to the end of a first arm
 
 -- Where every number is sent on by P, so is the number after the one found.
-abbrev Sends : (Role → ℕ → ℕ → (ℕ → ℕ) → ℕ) → Type 0
-Sends at =
-    (P : ℕ → ℕ) → P 0 ≡ 0 → (r : Role) (d k k′ : ℕ) (on on′ : ℕ → ℕ) → past k′ ≡ P (past k) → ((e : ℕ) → past (on′ e) ≡ P (past (on e)))
-    → past (at r d k′ on′) ≡ P (past (at r d k on))
+pub sent-on : (w : Bool) (P : ℕ → ℕ) → P 0 ≡ 0 → (r : Role) (d k k′ : ℕ) (on on′ : ℕ → ℕ) → past k′ ≡ P (past k) → ((e : ℕ) → past (on′ e) ≡ P (past (on e)))
+    → past (stopAt w r d k′ on′) ≡ P (past (stopAt w r d k on))
+unfolding stopAt
+sent-on w P z opens d k k′ on on′ e h = h (suc d)
+sent-on false P z parts d k k′ on on′ e h = h d
+sent-on true P z parts zero k k′ on on′ e h = e
+sent-on true P z parts (suc d) k k′ on on′ e h = h (suc d)
+sent-on w P z ends zero k k′ on on′ e h = e
+sent-on w P z ends (suc d) k k′ on on′ e h = h d
+sent-on w P z other d k k′ on on′ e h = h d
 
--- Inside an item the items in it are passed over.
-pub record Seeks (at : Role → ℕ → ℕ → (ℕ → ℕ) → ℕ) : Type 0 where
-  pub other-passes : (d k : ℕ) (on : ℕ → ℕ) → at other d k on ≡ on d
-  pub opens-deepens : (d k : ℕ) (on : ℕ → ℕ) → at opens d k on ≡ on (suc d)
-  pub parts-inside : (d k : ℕ) (on : ℕ → ℕ) → at parts (suc d) k on ≡ on (suc d)
-  pub ends-inside : (d k : ℕ) (on : ℕ → ℕ) → at ends (suc d) k on ≡ on d
-  pub sent-on : Sends at
-
-pub seeks-end : Seeks endAt
-unfolding endAt past given
-seeks-end = record {
-  other-passes = λ d k on. refl;
-  opens-deepens = λ d k on. refl;
-  parts-inside = λ d k on. refl;
-  ends-inside = λ d k on. refl;
-  sent-on = by;
-}
-  where
-    by : Sends endAt
-    by P z opens d k k′ on on′ e h = h (suc d)
-    by P z parts d k k′ on on′ e h = h d
-    by P z ends zero k k′ on on′ e h = e
-    by P z ends (suc d) k k′ on on′ e h = h d
-    by P z other d k k′ on on′ e h = h d
-
-pub seeks-separator : Seeks separatorAt
-unfolding separatorAt past given
-seeks-separator = record {
-  other-passes = λ d k on. refl;
-  opens-deepens = λ d k on. refl;
-  parts-inside = λ d k on. refl;
-  ends-inside = λ d k on. refl;
-  sent-on = by;
-}
-  where
-    by : Sends separatorAt
-    by P z opens d k k′ on on′ e h = h (suc d)
-    by P z parts zero k k′ on on′ e h = e
-    by P z parts (suc d) k k′ on on′ e h = h (suc d)
-    by P z ends zero k k′ on on′ e h = sym z
-    by P z ends (suc d) k k′ on on′ e h = h d
-    by P z other d k k′ on on′ e h = h d
-
-unfoldable pub seek : (Role → ℕ → ℕ → (ℕ → ℕ) → ℕ) → Sort → ℕ → ℕ → List Op → ℕ
-seek at b d k [] = 0
-seek at b d k (o ∷ os) = at (role b o) d k (λ e. seek at b e (suc k) os)
-
-pub end-seek : (b : Sort) (d k : ℕ) (os : List Op) → endFrom b d k os ≡ seek endAt b d k os
-unfolding endFrom seek
-end-seek b d k [] = refl
-end-seek b d k (o ∷ os) = ap (endAt (role b o) d k) (fun-ext (λ e. end-seek b e (suc k) os))
-
-pub separator-seek : (d k : ℕ) (os : List Op) → separatorFrom d k os ≡ seek separatorAt conditional d k os
-unfolding separatorFrom seek
-separator-seek d k [] = refl
-separator-seek d k (o ∷ os) = ap (separatorAt (role conditional o) d k) (fun-ext (λ e. separator-seek e (suc k) os))
-
-pub end-of : {L : List Op} {k : ℕ} {o : Op} {os : List Op} → From L k (o ∷ os) → (b : Sort) → endOf b L (suc k) ≡ seek endAt b 0 (suc (suc k)) os
+pub end-of : {L : List Op} {k : ℕ} {o : Op} {os : List Op} → From L k (o ∷ os) → (b : Sort) → endOf b L (suc k) ≡ stopFrom false b 0 (suc (suc k)) os
 unfolding endOf
-end-of {k} t b = ap (endFrom b 0 (suc (suc k))) (from-drop (next t)) ∙ end-seek b 0 (suc (suc k)) _
+end-of {k} t b = ap (stopFrom false b 0 (suc (suc k))) (from-drop (next t))
 
-pub separator-of : {L : List Op} {k : ℕ} {o : Op} {os : List Op} → From L k (o ∷ os) → separatorOf L (suc k) ≡ seek separatorAt conditional 0 (suc (suc k)) os
-unfolding separatorOf
-separator-of {k} t = ap (separatorFrom 0 (suc (suc k))) (from-drop (next t)) ∙ separator-seek 0 (suc (suc k)) _
+pub arm-of : {L : List Op} {k : ℕ} {o : Op} {os : List Op} → From L k (o ∷ os) → armOf L (suc k) ≡ stopFrom true conditional 0 (suc (suc k)) os
+unfolding armOf
+arm-of {k} t = ap (stopFrom true conditional 0 (suc (suc k))) (from-drop (next t))
 
--- d items of the sort are open.
-seeker : (at : Role → ℕ → ℕ → (ℕ → ℕ) → ℕ) → Seeks at → (b : Sort) → ByRole b ℕ ℕ
-unfolding seek
-seeker at S b = record {
-  reading = seek at b;
+-- Inside an item the items in it are passed over: d of the sort are open.
+seeker : (w : Bool) (b : Sort) → ByRole b ℕ ℕ
+unfolding stopFrom stopAt
+seeker w b = record {
+  reading = stopFrom w b;
   inside = λ h d. suc d;
-  passing = λ d k o os e. one d k os e ∙ S .other-passes d k _;
-  entering = λ d k o os e. one d k os e ∙ S .opens-deepens d k _;
-  turning = λ d h k o os e. one (suc d) k os e ∙ S .parts-inside d k _;
-  leaving = λ d h k o os e. one (suc d) k os e ∙ S .ends-inside d k _;
+  passing = λ d k o os e. one d k os e;
+  entering = λ d k o os e. one d k os e;
+  turning = λ d h k o os e. one (suc d) k os e ∙ parted w d k os;
+  leaving = λ d h k o os e. one (suc d) k os e;
 }
   where
-    one : {r q : Role} (d k : ℕ) (os : List Op) → r ≡ q → at r d k (λ x. seek at b x (suc k) os) ≡ at q d k (λ x. seek at b x (suc k) os)
-    one d k os e = ap (λ (r : Role). at r d k (λ x. seek at b x (suc k) os)) e
+    one : {r q : Role} (d k : ℕ) (os : List Op) → r ≡ q → stopAt w r d k (λ x. stopFrom w b x (suc k) os) ≡ stopAt w q d k (λ x. stopFrom w b x (suc k) os)
+    one d k os e = ap (λ (r : Role). stopAt w r d k (λ x. stopFrom w b x (suc k) os)) e
 
-pub seek-body : {at : Role → ℕ → ℕ → (ℕ → ℕ) → ℕ} → Seeks at → (b : Sort) {xs : List Op} → Body xs → (d k : ℕ) (os : List Op)
-    → seek at b d k (xs ++ os) ≡ seek at b d (over xs k) os
+    parted : (v : Bool) (d k : ℕ) (os : List Op) → stopAt v parts (suc d) k (λ x. stopFrom w b x (suc k) os) ≡ stopFrom w b (suc d) (suc k) os
+    parted false d k os = refl
+    parted true d k os = refl
+
+pub stop-body : (w : Bool) (b : Sort) {xs : List Op} → Body xs → (d k : ℕ) (os : List Op) → stopFrom w b d k (xs ++ os) ≡ stopFrom w b d (over xs k) os
 unfolding seeker by-role
-seek-body {at} S b y d k os = body-over (by-role (seeker at S b)) y d k os
+stop-body w b y d k os = body-over (by-role (seeker w b)) y d k os
 
 -- ## To the left: s d is the header of the item that is open d items out
 

@@ -11,8 +11,7 @@ use Rattle.rules.specs.Instruction.{Act, Sort, conditional, loop, Op, act, test
 use Rattle.rules.specs.Numbers.{at, each, given, past, moveTo}
 use Rattle.rules.specs.Nesting.{bracket}
 use Rattle.rules.specs.Skip.{plainTest}
-use Rattle.rules.specs.Partners.{Role, opens, parts, ends, other, roleOf, role, endAt, separatorAt, endOf, separatorOf, headerOf}
-use Rattle.rules.specs.Conditionals.{itsSeparator}
+use Rattle.rules.specs.Partners.{Role, opens, parts, ends, other, roleOf, role, stopAt, stopFrom, endOf, armOf, headerOf}
 use Rattle.rules.specs.SecondLevel.{Group, members, renumber, sent, laid, removed}
 use Rattle.rules.specs.Stack.{top}
 use Rattle.rules.specs.Step.{deed, Mem, Out, go, halt, leaving, does}
@@ -23,7 +22,7 @@ use Rattle.rules.proofs.Partners.{backAt, back}
 use Rattle.rules.proofs.Computes.{computes}
 use Rattle.faithful.proofs.Inner.Places.{clash, in-or-out, over, over-suc, ahead, ahead-out, place, move-out, move-place, move-renumber}
 use Rattle.faithful.proofs.Inner.Simulation.{Sim, simulated, Meets, cost, linkCost, asked, leapt, jumped, opened, called}
-use Rattle.faithful.proofs.Inner.Reading.{From, whole, next, from-at, from-length, from-of, from-over, Seeks, seeks-end, seeks-separator, seek, seek-body, end-of, separator-of, back-one, back-body, header-of, header-found}
+use Rattle.faithful.proofs.Inner.Reading.{From, whole, next, from-at, from-length, from-of, from-over, sent-on, stop-body, end-of, arm-of, back-one, back-body, header-of}
 use Rattle.faithful.proofs.Inner.Chain.{Arrives, chain-runs}
 use Rattle.faithful.proofs.Inner.Turns.{sortRank, rank, Calm, Good, Turns, keeps, leaps, forks, calls, returns, turn-single, Reads, same, nothing-of, turn-reads, turn-good}
 
@@ -113,21 +112,20 @@ module _ (k : ℕ) (small : k ≤ 2) (f : ℕ → Op → Group) (L : List Op) (g
   -- ## Searches, there and here
 
   module _ (b : Sort) (kept : sortRank b ≤ k) where
-    module _ (find : Role → ℕ → ℕ → (ℕ → ℕ) → ℕ) (S : Seeks find) where
-      to-right : {j : ℕ} (os : List Op) → From L j os → (d : ℕ) → past (seek find b d (P (suc j)) (laidFrom j os)) ≡ P (past (seek find b d (suc j) os))
-      unfolding seek laid each past given
-      to-right [] t d = refl
-      to-right {j} (o ∷ os) t d = by (group j o) (turn-reads b kept Q (turn t)) (width t) (to-right os (next t))
-        where
-          by : (xs : List Op) → Reads b o xs → pre (suc j) ≡ over xs (pre j)
-              → ((e : ℕ) → past (seek find b e (suc (pre (suc j))) (laidFrom (suc j) os)) ≡ P (past (seek find b e (suc (suc j)) os)))
-              → past (seek find b d (suc (pre j)) (xs ++ laidFrom (suc j) os)) ≡ P (past (find (role b o) d (suc j) (λ e. seek find b e (suc (suc j)) os)))
-          by xs (same r) w ih = rw r (S .sent-on P refl (role b o) d (suc j) (suc (pre j)) _ _ (ap suc (sym w)) (λ e. rw w at (ih e)))
-          by xs (nothing-of r y) w ih =
-              ap past (seek-body S b y d (suc (pre j)) (laidFrom (suc j) os))
-              ∙ ap (λ (q : ℕ). past (seek find b d q (laidFrom (suc j) os))) (over-suc xs (pre j) ∙ ap suc (sym w))
-              ∙ ih d
-              ∙ ap (λ (q : ℕ). P (past q)) (sym (ap (λ (x : Role). find x d (suc j) (λ e. seek find b e (suc (suc j)) os)) r ∙ S .other-passes d (suc j) _))
+    to-right : (w : Bool) {j : ℕ} (os : List Op) → From L j os → (d : ℕ) → past (stopFrom w b d (P (suc j)) (laidFrom j os)) ≡ P (past (stopFrom w b d (suc j) os))
+    unfolding stopFrom stopAt laid each past given
+    to-right w [] t d = refl
+    to-right w {j} (o ∷ os) t d = by (group j o) (turn-reads b kept Q (turn t)) (width t) (to-right w os (next t))
+      where
+        by : (xs : List Op) → Reads b o xs → pre (suc j) ≡ over xs (pre j)
+            → ((e : ℕ) → past (stopFrom w b e (suc (pre (suc j))) (laidFrom (suc j) os)) ≡ P (past (stopFrom w b e (suc (suc j)) os)))
+            → past (stopFrom w b d (suc (pre j)) (xs ++ laidFrom (suc j) os)) ≡ P (past (stopAt w (role b o) d (suc j) (λ e. stopFrom w b e (suc (suc j)) os)))
+        by xs (same r) h ih = rw r (sent-on w P refl (role b o) d (suc j) (suc (pre j)) _ _ (ap suc (sym h)) (λ e. rw h at (ih e)))
+        by xs (nothing-of r y) h ih =
+            ap past (stop-body w b y d (suc (pre j)) (laidFrom (suc j) os))
+            ∙ ap (λ (q : ℕ). past (stopFrom w b d q (laidFrom (suc j) os))) (over-suc xs (pre j) ∙ ap suc (sym h))
+            ∙ ih d
+            ∙ ap (λ (q : ℕ). P (past q)) (sym (ap (λ (x : Role). stopAt w x d (suc j) (λ e. stopFrom w b e (suc (suc j)) os)) r))
 
     to-left : {j : ℕ} {os : List Op} → From L j os → (d : ℕ) → back b L′ (pre j) d ≡ P (back b L j d)
     unfolding back laid each
@@ -154,51 +152,18 @@ module _ (k : ℕ) (small : k ≤ 2) (f : ℕ → Op → Group) (L : List Op) (g
 
     after-end : (b : Sort) → sortRank b ≤ k → past (endOf b L′ (suc (pre j))) ≡ P (past (endOf b L (suc j)))
     after-end b h =
-        ap past (end-of (u .here) b ∙ ap (λ (q : ℕ). seek endAt b 0 (suc q) (laidFrom (suc j) os)) (sym (u .wide)))
-        ∙ to-right b h endAt seeks-end os (next (u .there)) 0
+        ap past (end-of (u .here) b ∙ ap (λ (q : ℕ). stopFrom false b 0 (suc q) (laidFrom (suc j) os)) (sym (u .wide)))
+        ∙ to-right b h false os (next (u .there)) 0
         ∙ ap (λ (q : ℕ). P (past q)) (sym (end-of (u .there) b))
 
-    after-separator : 1 ≤ k → past (separatorOf L′ (suc (pre j))) ≡ P (past (separatorOf L (suc j)))
-    after-separator h =
-        ap past (separator-of (u .here) ∙ ap (λ (q : ℕ). seek separatorAt conditional 0 (suc q) (laidFrom (suc j) os)) (sym (u .wide)))
-        ∙ to-right conditional h separatorAt seeks-separator os (next (u .there)) 0
-        ∙ ap (λ (q : ℕ). P (past q)) (sym (separator-of (u .there)))
+    after-arm : 1 ≤ k → past (armOf L′ (suc (pre j))) ≡ P (past (armOf L (suc j)))
+    after-arm h =
+        ap past (arm-of (u .here) ∙ ap (λ (q : ℕ). stopFrom true conditional 0 (suc q) (laidFrom (suc j) os)) (sym (u .wide)))
+        ∙ to-right conditional h true os (next (u .there)) 0
+        ∙ ap (λ (q : ℕ). P (past q)) (sym (arm-of (u .there)))
 
     its-header : (b : Sort) → sortRank b ≤ k → role b o ≡ ends → role b x ≡ ends → headerOf b L′ (suc (pre j)) ≡ P (headerOf b L (suc j))
     its-header b h e e′ = header-of (u .here) b e′ ∙ to-left b h (u .there) 0 ∙ ap P (sym (header-of (u .there) b e))
-
-  -- A header of a sort that stays has a group of one record.
-  opener : {j : ℕ} {o : Op} {os : List Op} → From L j (o ∷ os) → (b : Sort) → sortRank b ≤ k → role b o ≡ opens → (x : Op) × One j o os x
-  unfolding laid each
-  opener {j} {o} {os} t b h e = by (group j o) (turn-reads b h Q (turn t)) (width t) (along t)
-    where
-      by : (xs : List Op) → Reads b o xs → pre (suc j) ≡ over xs (pre j) → From L′ (pre j) (xs ++ laidFrom (suc j) os) → (x : Op) × One j o os x
-      by xs (same {x = x} r) w u = (x, record { there = t; here = u; wide = w })
-      by xs (nothing-of r y) w u = clash cc
-
-  -- There is a number here where there is one there.
-  given-alike : (s′ s x : ℕ) → past s′ ≡ P (past s) → given s′ (P x) ≡ P (given s x)
-  unfolding past given
-  given-alike zero zero x e = refl
-  given-alike zero (suc s) x e = absurd (omega arith)
-  given-alike (suc s′) zero x e = absurd (omega arith)
-  given-alike (suc s′) (suc s) x e = refl
-
-  separator-alike : 1 ≤ k → (i q : ℕ) → headerOf conditional L i ≡ q → past (separatorOf L′ (P q)) ≡ P (past (separatorOf L q))
-  unfolding separatorOf past given
-  separator-alike h i zero r = refl
-  separator-alike h i (suc q) r =
-      let d = header-found conditional L i q r in
-      let t = from-of L q (d .0) (d .1) in
-      after-separator (opener (t .1) conditional h (d .2) .1) h
-
-  has-separator : {j : ℕ} {o : Op} {os : List Op} {x : Op} → One j o os x → 1 ≤ k → role conditional o ≡ ends → role conditional x ≡ ends
-      → given (itsSeparator L′ (suc (pre j))) (suc (suc (pre j))) ≡ P (given (itsSeparator L (suc j)) (suc (suc j)))
-  unfolding itsSeparator
-  has-separator {j} u h e e′ =
-      ap (λ (q : ℕ). given (separatorOf L′ q) (suc (suc (pre j)))) (its-header u conditional h e e′)
-      ∙ ap (λ (q : ℕ). given (separatorOf L′ (P (headerOf conditional L (suc j)))) (suc q)) (sym (u .wide))
-      ∙ given-alike _ _ (suc (suc j)) (separator-alike h (suc j) _ refl)
 
   -- ## Each record is done by its group
 
@@ -228,12 +193,12 @@ module _ (k : ℕ) (small : k ≤ 2) (f : ℕ → Op → Group) (L : List Op) (g
   keep (goto s) r u m = absurd (omega arith)
   keep (goto2 s t) r u m = absurd (omega arith)
   keep {j} (header conditional v a) r u m =
-      asked L′ (length L) P (suc (pre j)) m (header conditional v a) a v _ _ _ _ (from-at (u .here)) refl (onward u) (to _ _ (after-separator u r))
+      asked L′ (length L) P (suc (pre j)) m (header conditional v a) a v _ _ _ _ (from-at (u .here)) refl (onward u) (to _ _ (after-arm u r))
   keep {j} (header loop v a) r u m =
       asked L′ (length L) P (suc (pre j)) m (header loop v a) a v _ _ _ _ (from-at (u .here)) refl (onward u) (to _ _ (after-end u loop r))
   keep {j} separator r u m = leapt L′ (length L) P (suc (pre j)) m separator _ _ (from-at (u .here)) refl (to _ _ (after-end u conditional r))
   keep {j} (end conditional) r u m =
-      leapt L′ (length L) P (suc (pre j)) m (end conditional) _ _ (from-at (u .here)) refl (to _ _ (has-separator u r refl refl))
+      leapt L′ (length L) P (suc (pre j)) m (end conditional) _ _ (from-at (u .here)) refl (onward u)
   keep {j} (end loop) r u m = leapt L′ (length L) P (suc (pre j)) m (end loop) _ _ (from-at (u .here)) refl (to _ _ (its-header u loop r refl refl))
   keep (call x) r u m = absurd (omega arith)
   keep return r u m = absurd (omega arith)

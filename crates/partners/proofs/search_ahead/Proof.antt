@@ -6,7 +6,7 @@ use borrow.Author.Needs.{needs}
 use Rattle.rules.specs.Record.{count}
 use Rattle.rules.specs.Instruction.{ops}
 use Rattle.partners.specs.Searching.{sortOf, ahead}
-use Rattle.partners.proofs.Searching.{told, from, from-start, from-out, opened, passed, part-passed, part-inside, part-found, end-inside, end-found, end-first}
+use Rattle.partners.proofs.Searching.{told, from, from-start, from-out, opened, passed, part-passed, part-inside, part-found, end-inside, end-found}
 use Rattle.partners.proofs.search_ahead.Statement.{statement}
 use Rattle.partners.proofs.search_ahead.Tie as tie
 
@@ -33,8 +33,7 @@ search-ahead-spec =
     (λ c. omega arith)
     (λ c. let p = c .before in let r = p .before .before in let t = r .before .before in (omega arith, t .before .loop .inv .1 ∙ part-passed _ _ _ _ _ (t .loop-test .taken) (told (r .role-of .ensures) (p .enum-told2 .given .1)) (c .if1 .left)))
     (λ c. search needs)
-    (λ c. let e = c .before .before in let r = e .before .before in let t = r .before .before in sym (t .before .loop .inv .1 ∙ end-first _ _ _ _ _ (t .loop-test .taken) (told (r .role-of .ensures) (e .enum-told3 .given .1)) (c .if4 .taken) (c .before .if3 .taken)))
-    (λ c. let e = c .before .before in let r = e .before .before in let t = r .before .before in sym (t .before .loop .inv .1 ∙ end-found _ _ _ _ _ (t .loop-test .taken) (told (r .role-of .ensures) (e .enum-told3 .given .1)) (c .if4 .left) (c .before .if3 .taken)))
+    (λ c. let e = c .before in let r = e .before .before in let t = r .before .before in sym (t .before .loop .inv .1 ∙ end-found _ _ _ _ _ (t .loop-test .taken) (told (r .role-of .ensures) (e .enum-told3 .given .1)) (c .if3 .taken)))
     (λ c. omega arith) (λ c. omega arith)
     (λ c. let e = c .before in let r = e .before .before in let t = r .before .before in (omega arith, t .before .loop .inv .1 ∙ end-inside _ _ _ _ _ (t .loop-test .taken) (told (r .role-of .ensures) (e .enum-told3 .given .1)) (c .if3 .left)))
     (λ c. search needs) (λ c. omega arith)

@@ -4,29 +4,30 @@ use native.Mathlib.Omega.{arith}
 use native.Mathlib.Numerals.{add-one}
 use borrow.Author.Needs.{needs}
 use Rattle.rules.specs.Instruction.{conditional, loop}
+use Rattle.rules.specs.Numbers.{past}
 use Rattle.rules.specs.Labels.{target, target2}
 use Rattle.ways.specs.Places.{places, placeFor, placeAt}
-use Rattle.ways.proofs.Places.{in-file, end-in, separator-in, past-of, place-header, place-loop, place-below, place-above}
+use Rattle.ways.proofs.Places.{in-file, end-in, arm-in, place-header, place-loop, place-below, place-above}
 use Rattle.ways.proofs.place.Statement.{statement}
 use Rattle.ways.proofs.place.Tie as tie
 
-fits : tie.Need-next-if-requires
-fits c κs =
+past-end : tie.Need-past-record-requires
+past-end c κs =
     let a = c .before .before .before .before .args in
     omega (arith, c .conditional-end .ensures, end-in (a .s .now) (a .i) (omega (arith, c .before .before .kind-at .ensures, c .before .match .keys3)) conditional)
 
-fits-2 : tie.Need-next-if-requires-2
-fits-2 c κs =
-    let a = c .before .before .before .before .args in
-    omega (arith, in-file (a .s .now) (a .i) (omega (arith, c .before .before .kind-at .ensures, c .before .match .keys4)))
+past-own : tie.Need-add-result
+past-own c =
+    let a = c .before .before .before .args in
+    omega (arith, in-file (a .s .now) (a .i) (omega (arith, c .before .kind-at .ensures, c .match .keys4)))
 
-fits-3 : tie.Need-next-if-requires-3
-fits-3 c κs =
+past-arm : tie.Need-past-record-requires-2
+past-arm c κs =
     let a = c .before .before .before .before .before .before .args in
-    omega (arith, c .separator-of .ensures, separator-in (a .s .now) (a .i) (omega (arith, c .before .before .before .before .kind-at .ensures, c .before .before .if1 .left)))
+    omega (arith, c .arm-end .ensures, arm-in (a .s .now) (a .i) (omega (arith, c .before .before .before .before .kind-at .ensures, c .before .before .if1 .left)))
 
-fits-4 : tie.Need-next-if-requires-4
-fits-4 c κs =
+past-loop : tie.Need-past-record-requires-3
+past-loop c κs =
     let a = c .before .before .before .before .before .before .before .args in
     omega (arith, c .loop-end .ensures, end-in (a .s .now) (a .i) (omega (arith, c .before .before .before .before .before .kind-at .ensures, c .before .before .before .if1 .left)) loop)
 
@@ -46,13 +47,13 @@ separates : tie.Need-returns-3
 unfolding placeAt placeFor places
 separates c =
     let e = sym (c .before .before .before .kind-at .ensures) ∙ c .before .before .match .keys3 in
-    rw e (past-of _ _ _ (c .before .conditional-end .ensures) (c .next-if .ensures))
+    rw e (c .past-record .ensures ∙ ap past (c .before .conditional-end .ensures))
 
 ends : tie.Need-returns-4
 unfolding placeAt placeFor places
 ends c =
-    let e = sym (c .before .before .before .kind-at .ensures) ∙ c .before .before .match .keys4 in
-    rw e (c .next-if2 .ensures ∙ rw (add-one, c .before .item-separator .ensures))
+    let e = sym (c .before .kind-at .ensures) ∙ c .match .keys4 in
+    rw e (rw add-one)
 
 loop-ends : tie.Need-returns-5
 unfolding placeAt placeFor places
@@ -64,7 +65,7 @@ headers : tie.Need-returns-6
 unfolding placeAt
 headers c =
     let e = c .before .before .before .before .before .kind-at .ensures in
-    past-of _ _ _ (c .before .separator-of .ensures) (c .next-if3 .ensures)
+    c .past-record2 .ensures ∙ ap past (c .before .arm-end .ensures)
     ∙ sym (place-header _ _ _ _ _ (omega (arith, e, c .before .before .before .if1 .left)) (omega (arith, e, c .before .before .if2 .taken)))
 
 loop-headers : tie.Need-returns-7
@@ -72,7 +73,7 @@ unfolding placeAt
 loop-headers c =
     let e = c .before .before .before .before .before .before .kind-at .ensures in
     let q = c .before .before .before .before .before .match .rest in
-    past-of _ _ _ (c .before .loop-end .ensures) (c .next-if4 .ensures)
+    c .past-record3 .ensures ∙ ap past (c .before .loop-end .ensures)
     ∙ sym (place-loop _ _ _ _ _ (omega (arith, e, q .0 .0 .1, q .0 .1, c .before .before .before .if2 .left)) (omega (arith, e, c .before .before .if3 .taken)))
 
 lower : tie.Need-returns-8
@@ -98,14 +99,13 @@ place-spec =
     (λ c κs. search needs)
     (λ c κs. search needs)
     (λ c κs. search needs)
-    fits
+    past-end
+    past-own
     (λ c κs. search needs)
-    fits-2
     (λ c κs. search needs)
+    past-arm
     (λ c κs. search needs)
-    fits-3
-    (λ c κs. search needs)
-    fits-4
+    past-loop
     gotos
     gotos-2
     separates

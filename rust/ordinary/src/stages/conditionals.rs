@@ -5,9 +5,9 @@ use crate::record::{kind, numbered, Record};
 use crate::second_level::Levels;
 
 /// "With k the separator's number: +a{ becomes -a and a second-level ##(k+1),
-/// -a{ becomes +a and the same. A header without a separator gets ##0 there.
-/// }{ becomes ##(k+1), k its end's number. } at i becomes ##(i+1) if its item
-/// has a separator, else ##0."
+/// -a{ becomes +a and the same. [...] }{ becomes ##(k+1), k its end's number. }
+/// at i becomes ##(i+1)." And by request C-12, "a header without separator takes
+/// its `}` as partner, and that `}` passes to the next record."
 pub fn lower(given: &[Record]) -> Vec<Record> {
     let partner = partners(given);
     let mut levels = Levels::given(given.len());
@@ -16,14 +16,9 @@ pub fn lower(given: &[Record]) -> Vec<Record> {
         match record.kind {
             kind::YES_BLOCK | kind::NO_BLOCK => {
                 levels.first(exchanged_test(record));
-                levels.second(if k == 0 {
-                    Record::jump(0)
-                } else {
-                    Record::jump(k + 1)
-                });
+                levels.second(Record::jump(k + 1));
             }
             kind::SEPARATOR => levels.first(Record::jump(k + 1)),
-            kind::END if k == 0 => levels.first(Record::jump(0)),
             kind::END => levels.first(Record::jump(i + 1)),
             _ => levels.first(record),
         }

@@ -1,4 +1,5 @@
 use mathlib.Core.Path.{refl}
+use native.Mathlib.Omega.{arith}
 use borrow.Author.Needs.{needs}
 use Rattle.places.proofs.Writing.{fit-one, fit-as}
 use Rattle.stages.proofs.Groups.{conditional-plus, conditional-minus, conditional-parts, conditional-ends, conditionals-keep}
@@ -9,20 +10,21 @@ pub write-group-spec : {M : Type 1} → statement M
 write-group-spec =
     tie.close
     (tie.spec
-    (λ c κs. search needs) (λ c κs. search needs) (λ c κs. search needs) (λ c κs. search needs) (λ c κs. search needs) (λ c κs. search needs) (λ c κs. search needs)
-    (λ c κs. search needs) (λ c κs. search needs) (λ c κs. search needs) (λ c κs. search needs) (λ c κs. search needs) (λ c κs. search needs) (λ c κs. search needs)
+    (λ c κs. search needs) (λ c κs. search needs) (λ c κs. search needs) (λ c κs. search needs) (λ c κs. search needs) (λ c κs. search needs)
+    (λ c κs. search needs) (λ c κs. search needs) (λ c κs. search needs) (λ c κs. search needs) (λ c κs. search needs) (λ c κs. search needs) (λ c. omega arith)
+    (λ c κs. search needs) (λ c κs. search needs)
     (λ c κs. search needs)
     (λ c. search needs)
     (λ c.
     let p = c .before .before .before in
     let k = p .before .before .before .before in
-    fit-as (conditional-plus _ _ _ (k .kind-at .ensures) (k .before .before .x-at .ensures) (k .before .y-at .ensures) (p .before .separator-of .ensures) (p .place-past .ensures) (p .before .before .before .match .keys1))
+    fit-as (conditional-plus _ _ _ (k .kind-at .ensures) (k .before .before .x-at .ensures) (k .before .y-at .ensures) (p .before .arm-end .ensures) (p .place-past .ensures) (p .before .before .before .match .keys1))
     (c .before .before .put-pair .ensures))
     (λ c. search needs)
     (λ c.
     let p = c .before .before .before in
     let k = p .before .before .before .before in
-    fit-as (conditional-minus _ _ _ (k .kind-at .ensures) (k .before .before .x-at .ensures) (k .before .y-at .ensures) (p .before .separator-of2 .ensures) (p .place-past2 .ensures) (p .before .before .before .match .keys2))
+    fit-as (conditional-minus _ _ _ (k .kind-at .ensures) (k .before .before .x-at .ensures) (k .before .y-at .ensures) (p .before .arm-end2 .ensures) (p .place-past2 .ensures) (p .before .before .before .match .keys2))
     (c .before .before .put-pair2 .ensures))
     (λ c. search needs)
     (λ c.
@@ -33,7 +35,7 @@ write-group-spec =
     (λ c.
     let p = c .before .before .before in
     let m = p .before .before in
-    fit-as (conditional-ends _ _ _ (m .before .kind-at .ensures) (p .past-end .ensures) (m .match .keys4)) (fit-one refl (c .before .before .put-record2 .ensures)))
+    fit-as (conditional-ends _ _ _ (m .before .kind-at .ensures) (p .place .ensures) (m .match .keys4)) (fit-one refl (c .before .before .put-record2 .ensures)))
     (λ c. search needs)
     (λ c.
     let m = c .before .before .before .before in
