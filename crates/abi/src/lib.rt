@@ -1,166 +1,19 @@
 // What C and Rust call: byte slices and numbers in, a struct of the paper's numbers out. Each call answers what the crate below answers.
-use listing::number_of;
-use listing::place_of;
 use rules::Notation;
-use rules::Outcome;
-use rules::Ran;
-use rules::Stack;
-use rules::State;
-use rules::Status;
-use rules::Verdict;
-use text::TextRefusal;
-use text::TextVerdict;
+use told::QhRan;
+use told::QhState;
+use told::QhVerdict;
+use told::state_given;
+use told::tell_ran;
+use told::tell_text;
+use told::tell_verdict;
 ghost use mathlib.Core.Path.{_≡_};
-ghost use Rattle.rules.specs.Run.{statusNumber};
 ghost use Rattle.rules.specs.Record.{records};
 ghost use Rattle.rules.specs.Relative.{toRelative, toAbsolute};
 ghost use Rattle.rules.specs.Answers.{checkRecords, checkRoutine, relating, absoluting, runRoutine, runBase, stepRoutine, stepBase};
 ghost use Rattle.text.specs.Answers.{reading, writing, bytesRead, textWritten};
-ghost use Rattle.abi.specs.Exported.{in32, verdictTold, textRefusalTold, textTold, stateTold, stateGiven, ranTold, Converts, Translates, Calls, Lists, Types};
-
-#[repr(C)]
-pub struct QhVerdict {
-    pub refusal: u32,
-    pub place: u32,
-    pub count: u32,
-}
-
-#[repr(C)]
-pub struct QhState {
-    pub at: u32,
-    pub depth: u32,
-    pub entries: [u16; 96],
-}
-
-#[repr(C)]
-pub struct QhRan {
-    pub refusal: u32,
-    pub place: u32,
-    pub status: u32,
-    pub state: QhState,
-    pub steps: u64,
-    pub replies: u64,
-    pub actions: u64,
-}
-
-fn in_32(n: usize) -> u32
-    ensures { λ r. ⌜ r ≡ in32 n ⌝ }
-{
-    if n <= 4294967295 {
-        n as u32
-    } else {
-        4294967295
-    }
-}
-
-fn status_of(status: Status) -> u32
-    ensures { λ r. ⌜ r ≡ statusNumber status ⌝ }
-{
-    match status {
-        Status::Ended => 1,
-        Status::NoReply => 2,
-        Status::LogFull => 3,
-        Status::StackFull => 4,
-        Status::Spent => 5,
-    }
-}
-
-fn tell_verdict(verdict: Verdict) -> QhVerdict
-    ensures { λ r. ⌜ r ≡ verdictTold verdict ⌝ }
-{
-    match verdict {
-        Verdict::Accepted(n) => QhVerdict {
-            refusal: 0,
-            place: 0,
-            count: in_32(n),
-        },
-        Verdict::Refused(r) => QhVerdict {
-            refusal: in_32(number_of(r)),
-            place: in_32(place_of(r)),
-            count: 0,
-        },
-    }
-}
-
-fn tell_text_refusal(refusal: TextRefusal) -> QhVerdict
-    ensures { λ r. ⌜ r ≡ textRefusalTold refusal ⌝ }
-{
-    match refusal {
-        TextRefusal::Text(p) => QhVerdict {
-            refusal: 12,
-            place: in_32(p),
-            count: 0,
-        },
-        TextRefusal::Name(p) => QhVerdict {
-            refusal: 13,
-            place: in_32(p),
-            count: 0,
-        },
-        TextRefusal::Earlier(r) => tell_verdict(Verdict::Refused(r)),
-    }
-}
-
-fn tell_text(verdict: TextVerdict) -> QhVerdict
-    ensures { λ r. ⌜ r ≡ textTold verdict ⌝ }
-{
-    match verdict {
-        TextVerdict::Done(n) => tell_verdict(Verdict::Accepted(n)),
-        TextVerdict::Refused(r) => tell_text_refusal(r),
-    }
-}
-
-fn tell_state(state: State) -> QhState
-    ensures { λ r. ⌜ r ≡ stateTold state ⌝ }
-{
-    let stack = state.stack;
-    let entries = stack.entries;
-    QhState {
-        at: in_32(state.at),
-        depth: in_32(stack.depth),
-        entries,
-    }
-}
-
-fn state_given(given: QhState) -> State
-    ensures { λ r. ⌜ r ≡ stateGiven given ⌝ }
-{
-    let entries = given.entries;
-    let stack = Stack {
-        entries,
-        depth: given.depth as usize,
-    };
-    State {
-        at: given.at as usize,
-        stack,
-    }
-}
-
-fn tell_ran(ran: Ran) -> QhRan
-    ensures { λ r. ⌜ r ≡ ranTold ran ⌝ }
-{
-    let state = tell_state(ran.state);
-    let outcome = ran.outcome;
-    match outcome {
-        Outcome::Stopped(w) => QhRan {
-            refusal: 0,
-            place: 0,
-            status: status_of(w),
-            state,
-            steps: ran.steps,
-            replies: ran.replies as u64,
-            actions: ran.actions as u64,
-        },
-        Outcome::TurnedAway(r) => QhRan {
-            refusal: in_32(number_of(r)),
-            place: in_32(place_of(r)),
-            status: 0,
-            state,
-            steps: ran.steps,
-            replies: ran.replies as u64,
-            actions: ran.actions as u64,
-        },
-    }
-}
+ghost use Rattle.told.specs.Numbers.{verdictTold, stateGiven};
+ghost use Rattle.abi.specs.Exported.{Converts, Translates, Calls, Lists, Types};
 
 // Checks 1 to 7 of a routine.
 #[no_mangle]

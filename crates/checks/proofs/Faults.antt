@@ -6,7 +6,6 @@ use native.Mathlib.Numerals.{add-one}
 use mathlib.Core.Bool.{Bool, true, false, not, _&&_}
 use mathlib.Core.Option.{Option, some}
 use mathlib.Core.List.{List}
-use borrow.Author.Tests.{le-leb, lt-leb}
 use lib.ListN.{drop, getD}
 use lib.Seq.{drop-drop}
 use Rattle.rules.specs.declared.Notation.{Notation}
@@ -14,29 +13,13 @@ use Rattle.rules.specs.declared.Row.{Row}
 use Rattle.rules.specs.declared.Refusal.the-variants.{Kind, Field}
 use Rattle.rules.specs.declared.Verdict.{Verdict}
 use Rattle.rules.specs.declared.Verdict.the-variants.{Accepted, Refused}
-use Rattle.rules.specs.Numbers.{names}
 use Rattle.rules.specs.Record.{Rec, recordOf}
 use Rattle.rules.specs.Table.{rows, relativeRows, rowOf}
 use Rattle.rules.specs.Refusals.{when, orElse, verdictOf}
 use Rattle.rules.specs.Checks.{listed, kindFault, fieldFault, fault, faultFrom}
 use Rattle.rules.proofs.Records.{record-drop}
 use Rattle.checks.specs.Ranges.{outside}
-use Rattle.checks.proofs.Rows.{Found, found}
-
--- 1..n holds a number that is not 0 and not above n
-pub names-in : (n k : ℕ) → ¬ (k ≡ 0) → k ≤ n → names n k ≡ true
-unfolding names
-names-in n zero z h = absurd (z refl)
-names-in n (suc k) z h = le-leb (suc k) n h
-
-pub names-zero : (n k : ℕ) → k ≡ 0 → names n k ≡ false
-unfolding names
-names-zero n k e = rw e
-
-pub names-above : (n k : ℕ) → n < k → names n k ≡ false
-unfolding names
-names-above n zero h = absurd (omega arith)
-names-above n (suc k) h = lt-leb (suc k) n h
+use Rattle.kinds.proofs.Rows.{Found, found}
 
 -- ## The record after the first k
 

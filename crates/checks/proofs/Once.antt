@@ -1,17 +1,9 @@
 -- For every public function: any two answers that its contract allows are equal. The contract is the function's own, as the check
 -- reads it from the source.
 use mathlib.Core.Path.{_≡_}
-use Rattle.checks.proofs.table.all_rows.Reads as all-rows
-use Rattle.checks.proofs.table.is_listed.Reads as is-listed
 use Rattle.checks.proofs.check_records.Reads as check-records
 use Rattle.checks.proofs.check_base.Reads as check-base
 use Rattle.checks.proofs.check_relative.Reads as check-relative
-
-all-rows-once : (κs : _) (a : _) (r r′ : _) (e e′ : _) → all-rows.Learnt κs a r e → all-rows.Learnt κs a r′ e′ → r ≡ r′
-all-rows-once κs a r r′ e e′ p q = cc
-
-is-listed-once : (κs : _) (a : _) (r r′ : _) (e e′ : _) → is-listed.Learnt κs a r e → is-listed.Learnt κs a r′ e′ → r ≡ r′
-is-listed-once κs a r r′ e e′ p q = cc
 
 check-records-once : (κs : _) (a : _) (r r′ : _) (e e′ : _) → check-records.Learnt κs a r e → check-records.Learnt κs a r′ e′ → r ≡ r′
 check-records-once κs a r r′ e e′ p q = cc

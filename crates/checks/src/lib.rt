@@ -1,21 +1,20 @@
-// Refusals 1 to 4, for a routine, a base and a relative base alike, and the constant table that they read.
-mod table;
-
-use crate::table::own_rows;
+// Refusals 1 to 4, for a routine, a base and a relative base alike.
+use fields::in_row;
+use fields::own_action;
+use kinds::all_rows;
+use kinds::is_listed;
+use kinds::own_rows;
 use records::number;
 use rules::Notation;
 use rules::Refusal;
 use rules::Row;
 use rules::Verdict;
-pub use table::all_rows;
-pub use table::is_listed;
 ghost use mathlib.Core.Path.{_≡_};
 ghost use Prim.Native.Nat.{_*_, _<_};
-ghost use mathlib.Core.Bool.{_&&_};
 ghost use mathlib.Core.Option.{some};
 ghost use lib.ListN.{drop};
-ghost use Rattle.rules.specs.Record.{recordOf, rec, spareZero, count};
-ghost use Rattle.rules.specs.Checks.{most, inRow, stackAction, hasStack, kindFault, faultFrom};
+ghost use Rattle.rules.specs.Record.{recordOf, spareZero, count};
+ghost use Rattle.rules.specs.Checks.{most, kindFault, faultFrom};
 ghost use Rattle.checks.specs.Ranges.{outside};
 ghost use Rattle.rules.specs.Refusals.{verdictOf};
 ghost use Rattle.rules.specs.Answers.{checkRecords};
@@ -44,61 +43,6 @@ fn spare_zero(s: &[u8], k: usize) -> bool
         return false;
     }
     s[at + 7] == 0
-}
-
-// x and y are in the row's ranges.
-fn in_row(row: Row, x: u16, y: u16) -> bool
-    ensures { λ r. ⌜ r ≡ inRow (some row) (rec 0 x y) ⌝ }
-{
-    if x < row.xmin {
-        return false;
-    }
-    if row.xmax < x {
-        return false;
-    }
-    if y < row.ymin {
-        return false;
-    }
-    y <= row.ymax
-}
-
-// x is one of the counter stack's own actions, and y what that action takes.
-fn stack_action(kind: u8, x: u16, y: u16) -> bool
-    ensures { λ r. ⌜ r ≡ stackAction (rec kind x y) ⌝ }
-{
-    if kind == 0 {
-        return false;
-    }
-    if 3 < kind {
-        return false;
-    }
-    match x {
-        1001 => y <= 9999,
-        1003 => y <= 9999,
-        1002 => y == 0,
-        _ => false,
-    }
-}
-
-fn has_stack(notation: Notation) -> bool
-    ensures { λ r. ⌜ r ≡ hasStack notation ⌝ }
-{
-    match notation {
-        Notation::Routine => false,
-        Notation::Base => true,
-        Notation::Relative => true,
-    }
-}
-
-// In a base and a relative base x may also be one of the counter stack's own actions.
-fn own_action(notation: Notation, kind: u8, x: u16, y: u16) -> bool
-    ensures { λ r. ⌜ r ≡ (hasStack notation && stackAction (rec kind x y)) ⌝ }
-{
-    if has_stack(notation) {
-        stack_action(kind, x, y)
-    } else {
-        false
-    }
 }
 
 // 3: a kind not of this notation, or byte 1, 6 or 7 not zero, in the record after the first k.

@@ -80,7 +80,7 @@ pub record Encoded (f : List ℕ) : Type 0 where
   pub its-records : map encode (ops f) ≡ records f
   pub its-bytes : ((k : ℕ) → getD f k 0 < 256) → file (ops f) ≡ f
 
--- So of every file that is accepted, as a routine or as a base: reading its records loses nothing, whatever the table of kinds says.
+-- So of every file that is accepted, as a routine or as a base: reading its records loses nothing, and only `encode` has to be held beside the table of kinds.
 abbrev pub Encodings : Type 0
 Encodings = (f : List ℕ) (n : ℕ) → (checkRoutine f ≡ Accepted n → Encoded f) × (checkRecords Base f ≡ Accepted n → Encoded f)
 

@@ -1,6 +1,6 @@
 // The places that a routine's records add in its base, by the table: refusal 6 and the converted length.
-use checks::all_rows;
-use checks::is_listed;
+use kinds::all_rows;
+use kinds::is_listed;
 use rules::Notation;
 ghost use mathlib.Core.Path.{_≡_};
 ghost use Rattle.rules.specs.Instruction.{ops};

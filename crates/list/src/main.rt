@@ -1,4 +1,4 @@
-// Reads a routine from standard input and prints its listing, or why it is refused. A program in Rattle has no exit status to give: an
+// Reads a routine from standard input and prints its listing, or why it is refused. A program in Rattle cannot set its exit status: an
 // input that cannot be read to its end prints nothing, an output that cannot be written stays as far as it came, and each puts one line
 // on standard error.
 use libc::STDERR_FILENO;

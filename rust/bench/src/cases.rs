@@ -13,8 +13,9 @@ const LONG: u64 = 100_000;
 /// Steps of a short one.
 const SHORT: u64 = 10;
 
-/// The incident's routine, its last action a jump to the start so that it goes on.
-const INCIDENT: &str = "+a1{; +a2{; a3; }{; a4; }; }{; a4; }; ##1";
+/// A routine of ten records: two blocks, one in the other, and a jump to the start so
+/// that it goes on.
+const ROUND: &str = "+a1{; +a2{; a3; }{; a4; }; }{; a4; }; ##1";
 /// A base of ten records that goes round.
 const TEN: &str = "+a1; ##4; a2; -a3; ##7; a4; a5; ##9; a6; ##1";
 /// A call and a return, over and over.
@@ -149,17 +150,17 @@ fn long_runs() -> Vec<Case> {
 fn short_runs() -> Vec<Case> {
     let blocks = bytes_of(&nested("+a1{", "}", 256));
     let ten = bytes_of(&seq(TEN));
-    let incident = bytes_of(&seq(INCIDENT));
+    let round = bytes_of(&seq(ROUND));
     let step = Job::Step {
-        routine: incident.clone(),
+        routine: round.clone(),
         replies: vec![0],
         log: vec![0; 2],
     };
     vec![
         running("run-short", TEN, ten, false, SHORT),
-        running("run-short-routine", INCIDENT, incident, true, SHORT),
+        running("run-short-routine", ROUND, round, true, SHORT),
         running("run-blocks", "256 nested blocks", blocks, true, SHORT),
-        case("step-routine", INCIDENT, step),
+        case("step-routine", ROUND, step),
     ]
 }
 

@@ -46,3 +46,17 @@ fn the_readme_has_the_same_numbers() {
         assert!(readme.contains(&row), "README.md has no row {row}");
     }
 }
+
+/// The header has them with commas, two columns to a line.
+#[test]
+fn the_header_has_the_same_numbers() {
+    let header = include_str!("../../../include/quadrilhel.h");
+    for (name, bytes) in STACK_NEEDS {
+        let number = format!("{},{:03}", bytes / 1000, bytes % 1000);
+        let said = header.lines().any(|line| {
+            let words: Vec<&str> = line.split_whitespace().collect();
+            words.windows(2).any(|two| two == [name, &number])
+        });
+        assert!(said, "quadrilhel.h does not say {name} {number}");
+    }
+}

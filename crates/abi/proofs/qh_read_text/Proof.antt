@@ -1,6 +1,6 @@
 use mathlib.Core.Path.{ap, _∙_}
 use borrow.Author.Needs.{needs}
-use Rattle.abi.specs.Exported.{textTold}
+use Rattle.told.specs.Numbers.{textTold}
 use Rattle.abi.proofs.qh_read_text.Statement.{statement}
 use Rattle.abi.proofs.qh_read_text.Tie as tie
 

@@ -8,7 +8,7 @@ use lib.ListN.{drop, getD}
 use Rattle.rules.specs.Record.{recordOf}
 use Rattle.rules.specs.Checks.{fieldFault, faultFrom}
 use Rattle.rules.specs.Refusals.{verdictOf}
-use Rattle.checks.proofs.Rows.{Found}
+use Rattle.kinds.proofs.Rows.{Found}
 use Rattle.checks.proofs.Faults.{kind-listed, field-shared, field-own, answerFrom, starts, kind-found, field-found, passed, ends}
 use Rattle.checks.proofs.lowest_fault.Statement.{statement}
 use Rattle.checks.proofs.lowest_fault.Tie as tie

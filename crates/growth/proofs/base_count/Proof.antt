@@ -10,7 +10,7 @@ use Rattle.rules.specs.declared.Notation.the-variants.{Routine}
 use Rattle.rules.specs.Record.{count}
 use Rattle.rules.specs.Table.{rowOf}
 use Rattle.rules.specs.Checks.{listed}
-use Rattle.checks.proofs.Rows.{blank, routine-above, routine-within, routine-row}
+use Rattle.kinds.proofs.Rows.{blank, routine-above, routine-within, routine-row}
 use Rattle.growth.specs.Length.{baseLength}
 use Rattle.growth.proofs.Lengths.{addedFrom, sum-row, sum-none, sum-out, base-none, base-starts, base-bound}
 use Rattle.growth.proofs.base_count.Statement.{statement}

@@ -13,7 +13,7 @@ use Rattle.rules.specs.Table.{rowOf}
 use Rattle.rules.specs.Checks.{listed}
 use Rattle.rules.specs.Instruction.{ops}
 use Rattle.rules.specs.Skip.{skip}
-use Rattle.checks.proofs.Rows.{blank, routine-above, routine-within, routine-row}
+use Rattle.kinds.proofs.Rows.{blank, routine-above, routine-within, routine-row}
 use Rattle.growth.proofs.Lengths.{row-small, skipsFrom, skips-start, skips-out, no-test, next-unlisted, next-adds-not, next-adds}
 use Rattle.growth.proofs.skip_place.Statement.{statement}
 use Rattle.growth.proofs.skip_place.Tie as tie

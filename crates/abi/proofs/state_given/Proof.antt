@@ -1,9 +1,0 @@
-use mathlib.Core.Path.{_≡_, refl}
-use borrow.Author.Needs.{needs}
-use Rattle.abi.specs.Exported.{stateGiven}
-use Rattle.abi.proofs.state_given.Statement.{statement}
-use Rattle.abi.proofs.state_given.Tie as tie
-
-pub state-given-spec : {M : Type 1} → statement M
-unfolding stateGiven
-state-given-spec = tie.close (tie.spec (λ c. search needs) (λ c. search needs) (λ c. refl))

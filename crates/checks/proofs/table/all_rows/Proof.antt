@@ -1,8 +1,0 @@
-use mathlib.Core.Path.{refl}
-use Rattle.rules.specs.Table.{rows}
-use Rattle.checks.proofs.table.all_rows.Statement.{statement}
-use Rattle.checks.proofs.table.all_rows.Tie as tie
-
-pub all-rows-spec : {M : Type 1} → statement M
-unfolding rows
-all-rows-spec = tie.close (tie.spec (λ c. refl))
