@@ -82,7 +82,7 @@ fn write(text: &[u8]) {
 // `refused`, number, place: at most 50 bytes.
 fn refuse(refusal: Refusal) {
     let mut line = [0u8; 50];
-    let length = listing::refused_line(refusal, &mut line);
+    let length = lines::refused_line(refusal, &mut line);
     write(&line[..length]);
 }
 

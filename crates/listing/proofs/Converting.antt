@@ -28,7 +28,8 @@ use Rattle.rules.proofs.Instructions.{Fit, accepted-ops}
 use Rattle.rules.proofs.Fits.{all-fit-small, stages-fit}
 use Rattle.rules.proofs.Length.{converted-length}
 use Rattle.rules.proofs.Refusals.{refused-then, accepted-then, accepted-count, accepted-none, Admitted, admitted}
-use Rattle.listing.specs.Text.{listing, textOf}
+use Rattle.lines.specs.Text.{listing}
+use Rattle.listing.specs.Text.{textOf}
 use Rattle.listing.specs.Answers.{roomFor, listingOf, printed, Listed}
 use Rattle.listing.proofs.Lengths.{all-narrow, listing-length}
 

@@ -6,8 +6,10 @@ use Rattle.rules.specs.Record.{rec}
 use Rattle.rules.specs.Instruction.{file}
 use Rattle.rules.proofs.Cases.{listed}
 use Rattle.rules.proofs.Computes.{computes}
-use Rattle.words.specs.Text.{ascii, digits, decimal, action, sign, instruction}
-use Rattle.listing.specs.Text.{line, lines, listing, textOf, refusedAt, refused}
+use Rattle.print.specs.Text.{ascii, digits, decimal}
+use Rattle.words.specs.Text.{action, sign, instruction}
+use Rattle.lines.specs.Text.{line, lines, listing, refusedAt, refused}
+use Rattle.listing.specs.Text.{textOf}
 
 -- `-a5{*; a6; +a7{; a8; }{; a9; }; *}; a10`
 pub example : textOf (file listed) ≡ ascii "length 9 11\n1 +a5\n2 ##11\n3 a6\n4 -a7\n5 ##8\n6 a8\n7 ##10\n8 a9\n9 ##10\n10 ##1\n11 a10\n"

@@ -1,5 +1,4 @@
 -- How long a text can get.
---     refused-length     the line of a refusal has at most 50 bytes
 --     listing-length     a listing has at most 73,744: a first line of at most 16 and, for each of at most 4,096 records, one of at most 18
 use Prim.Native.Nat.{ℕ, suc, _+_, _*_, _≤_, _<_}
 use native.Mathlib.Omega.{arith}
@@ -11,13 +10,10 @@ use Rattle.rules.specs.Record.{Rec}
 use Rattle.rules.specs.Instruction.{Act, outside, push, pop, compare, conditional, loop, Op, act, test, jump, label, goto, goto2, header, separator, end, call, return, actOf, xOf, yOf, actRec, encode}
 use Rattle.rules.proofs.Records.{All}
 use Rattle.rules.proofs.Instructions.{FitAct, Fit}
-use Rattle.words.specs.Text.{ascii, decimal, named, action, sign, instruction}
-use Rattle.words.proofs.Decimal.{decimal-length}
-use Rattle.listing.specs.Text.{refusedAt, line, lines, listing}
-
-pub refused-length : (n p : ℕ) → n < 18446744073709551616 → p < 18446744073709551616 → length (refusedAt n p) ≤ 50
-unfolding refusedAt
-refused-length n p h l = simp length-append (omega (arith, decimal-length 19 n (omega arith), decimal-length 19 p (omega arith)))
+use Rattle.print.specs.Text.{ascii, decimal}
+use Rattle.print.proofs.Decimal.{decimal-length}
+use Rattle.words.specs.Text.{named, action, sign, instruction}
+use Rattle.lines.specs.Text.{line, lines, listing}
 
 -- Both fields are at most 9,999, as in every record of a base.
 abbrev pub Narrow : Rec → Type 0

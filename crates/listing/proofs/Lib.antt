@@ -1,5 +1,4 @@
 pub mod Printing
-pub mod Lines
 pub mod Lengths
 pub mod Example
 pub mod Converting

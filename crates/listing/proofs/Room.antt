@@ -1,15 +1,12 @@
--- What a caller of the two calls goes by.
+-- What a caller goes by.
 --     enough     a text of 73,744 bytes has room for every listing: only refusals 1 to 7 are left
---     Within, within, line-within     the bytes printed lie within the text
+--     within     the bytes printed lie within the text
 use mathlib.Core.Path.{_≡_, refl, sym, ap, _∙_}
 use Prim.Native.Nat.{ℕ, _≤_}
 use native.Mathlib.Omega.{arith}
-use mathlib.Core.Bool.{Bool, true, false, cond}
 use mathlib.Core.Option.{Option, none, some}
 use mathlib.Core.List.{List, [], _∷_, _++_}
-use lib.ListN.{length, take, drop, length-append}
-use lib.Seq.{length-take-le}
-use lib.Dec.{leb}
+use lib.ListN.{length, drop, length-append}
 use borrow.Author.Tests.{le-ltb, ltb-false}
 use Rattle.rules.specs.declared.Refusal.{Refusal}
 use Rattle.rules.specs.declared.Verdict.{Verdict}
@@ -18,7 +15,8 @@ use Rattle.rules.specs.Refusals.{when, orElse, first, verdictOf, verdict}
 use Rattle.rules.specs.Answers.{routineChecks}
 use Rattle.rules.proofs.Refusals.{refused-then, accepted-then, accepted-count, accepted-none, none-first, when-none}
 use Rattle.listing.specs.Text.{textOf}
-use Rattle.listing.specs.Answers.{roomFor, listingOf, printed, Listed, Line}
+use Rattle.lines.proofs.Refused.{Within, lies}
+use Rattle.listing.specs.Answers.{roomFor, listingOf, printed, Listed}
 use Rattle.listing.proofs.Converting.{text-length}
 
 pub enough : (s text : List ℕ) → 73744 ≤ length text → listingOf s text ≡ verdict (routineChecks s) (length (textOf s))
@@ -31,14 +29,6 @@ enough s text h = by (verdict (routineChecks s) (length (textOf s))) refl
         accepted-then (routineChecks s) _ _ _ e
         ∙ rw (le-ltb (length text) (length (textOf s)) (omega arith)) (ap Accepted (sym (accepted-count (routineChecks s) _ e)))
     by (Refused r) e = refused-then (routineChecks s) _ _ _ e
-
--- The first n bytes of w are n bytes.
-pub record Within (n : ℕ) (w : List ℕ) : Type 0 where
-  pub bounded : n ≤ length w
-  pub counted : n ≡ length (take n w)
-
-abbrev lies : {n : ℕ} {w : List ℕ} → n ≤ length w → Within n w
-lies {n} {w} h = record { bounded = h; counted = sym (length-take-le n w h) }
 
 -- where no check finds anything, the last ones do not
 none-last : (cs ds : List (Option Refusal)) → first (cs ++ ds) ≡ none → first ds ≡ none
@@ -55,13 +45,3 @@ within s {text} {text′} {n} p =
     let c : n ≡ length (textOf s) = accepted-count _ _ e in
     let o : text′ ≡ textOf s ++ drop n text = p .output ∙ rw e in
     lies (omega (arith, ap length o, length-append (textOf s) (drop n text)))
-
-pub line-within : {t text text′ : List ℕ} {n : ℕ} → Line t text n text′ → Within n text′
-line-within {t} {text} {text′} {n} p = by (leb (length t) (length text)) refl (p .answers) (p .output)
-  where
-    by : (b : Bool) → leb (length t) (length text) ≡ b → n ≡ cond b (length t) 0 → text′ ≡ cond b (t ++ drop (length t) text) text → Within n text′
-    by true e a o =
-        let a : n ≡ length t = a in
-        let o : text′ ≡ t ++ drop (length t) text = o in
-        lies (omega (arith, ap length o, length-append t (drop (length t) text)))
-    by false e a o = lies (omega (arith, ap length o))

@@ -1,6 +1,6 @@
--- What the calls answer, and what the lent text then holds, on every input.
+-- What the call answers, and what the lent text then holds, on every input.
 use mathlib.Core.Path.{_≡_}
-use Rattle.rules.specs.Words.{ℕ, cond, Option, List, [], _∷_, _++_, length, drop, leb, ltb}
+use Rattle.rules.specs.Words.{ℕ, Option, List, [], _∷_, _++_, length, drop, ltb}
 use Rattle.rules.specs.declared.Refusal.{Refusal}
 use Rattle.rules.specs.declared.Refusal.the-variants.{Room}
 use Rattle.rules.specs.declared.Verdict.{Verdict}
@@ -26,8 +26,3 @@ printed (Refused r) t text = text
 pub record Listed (v : Verdict) (t text : List ℕ) (answer : Verdict) (text′ : List ℕ) : Type 0 where
   pub answers : answer ≡ v
   pub output : text′ ≡ printed v t text
-
--- refused_line(r, text): the line where it has room, and nothing where it has not.
-pub record Line (t text : List ℕ) (answer : ℕ) (text′ : List ℕ) : Type 0 where
-  pub answers : answer ≡ cond (leb (length t) (length text)) (length t) 0
-  pub output : text′ ≡ cond (leb (length t) (length text)) (t ++ drop (length t) text) text

@@ -9,9 +9,8 @@ pub fn word(text: &[u8]) {
 
 // A word, and a number behind it.
 pub fn named(name: &[u8], n: usize) {
-    let mut line = [0u8; 64];
-    let k = words::put_named(name, n, &mut line);
-    word(part(&line, 0, k));
+    word(name);
+    io::print_decimal(STDOUT_FILENO, n as u64);
 }
 
 // A record as the paper writes it.

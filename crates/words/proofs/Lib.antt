@@ -1,4 +1,2 @@
-pub mod Decimal
 pub mod Instructions
 pub mod Once
-pub mod Printing

@@ -1,26 +1,9 @@
--- The words of a listing, byte for byte: numbers in decimal, actions and instructions.
-use Prim.Native.Char.{code}
+-- The words of a listing, byte for byte: actions and instructions.
 use Prim.Native.String.{String}
-use Prim.Native.String as text
-use Rattle.rules.specs.Words.{ℕ, zero, suc, _+_, _/_, _%_, cond, List, [], _∷_, _++_, eqb, ltb}
+use Rattle.rules.specs.Words.{ℕ, cond, List, [], _++_, eqb}
 use Rattle.rules.specs.Record.{Rec}
 use Rattle.rules.specs.Instruction.{Act, outside, push, pop, compare, actOf}
-
--- The bytes of a word.
-abbrev pub ascii : String → List ℕ
-ascii text.[] = []
-ascii (text._∷_ c word) = code c ∷ ascii word
-
--- A number in decimal, without leading zeros: its last digit behind those of its tenth. `most` is a bound on how many there are.
-abbrev pub digit : ℕ → ℕ
-digit d = 48 + d
-
-unfoldable pub digits : ℕ → ℕ → List ℕ
-digits zero n = []
-digits (suc most) n = let before = digits most (n / 10) in cond (ltb n 10) (digit n ∷ []) (before ++ (digit (n % 10) ∷ []))
-
-unfoldable pub decimal : ℕ → List ℕ
-decimal n = digits (suc n) n
+use Rattle.print.specs.Text.{ascii, decimal}
 
 -- A word, and a number behind it.
 abbrev pub named : String → ℕ → List ℕ

@@ -1,5 +1,5 @@
 use borrow.Author.Needs.{needs}
-use Rattle.listing.proofs.Room.{Within, line-within}
+use Rattle.lines.proofs.Refused.{Within, line-within}
 use Rattle.list.proofs.refuse.Statement.{statement}
 use Rattle.list.proofs.refuse.Tie as tie
 

@@ -3,9 +3,9 @@ use Prim.Native.Nat.{ℕ}
 use borrow.Author.Needs.{needs}
 use lib.ListN.{replicate, length-replicate}
 use Rattle.rules.specs.Record.{records}
-use Rattle.words.proofs.Printing.{Whole}
-use Rattle.listing.specs.Text.{listing}
-use Rattle.listing.proofs.Printing.{page, in-array, part, too-short, shown}
+use Rattle.print.proofs.Printing.{Whole, in-array, part, page}
+use Rattle.lines.specs.Text.{listing}
+use Rattle.listing.proofs.Printing.{too-short, shown}
 use Rattle.listing.proofs.show.Statement.{statement}
 use Rattle.listing.proofs.show.Tie as tie
 

@@ -1,0 +1,4 @@
+pub mod Printing
+pub mod Decimal
+pub mod Forms
+pub mod Once
