@@ -69,7 +69,8 @@ Both sides get the same bytes and the same buffers, in one process, taking turns
 A sample is so many calls that it lasts about half a millisecond. Times are of each
 side's fastest sample, divided by its calls, and so is the ratio; beside it stands
 the median of the samples' own ratios, with its quartiles. Quartiles far apart tell
-of a busy machine, which the fastest samples bear best.
+of a busy machine, which the fastest samples bear best. Samples are taken at 32
+depths of the machine stack, since how a frame lies may change what a call costs.
 Buffers are made once for each case and are not cleared between calls: `convert` is
 lent 32,768 bytes for its output and as many to work in, and clears the latter
 itself, as it must; runs write over the log of the run before. Checks are part of

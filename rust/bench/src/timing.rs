@@ -1,5 +1,6 @@
 //! The fastest and the median of samples that are taken in turns.
 
+use std::hint::black_box;
 use std::time::Instant;
 
 use crate::cases::{Case, Side};
@@ -22,18 +23,29 @@ pub struct Times {
     pub upper: f64,
 }
 
-/// Times both sides of a case, each in turn going first.
+/// How many different depths of the machine stack the samples are taken at.
+const DEPTHS: usize = 32;
+
+/// Times both sides of a case, each in turn going first, at the next depth of the
+/// stack: what a call costs may hang on how its frame happens to lie.
 pub fn measure(case: &mut Case) -> Times {
     let calls = [Side::Proved, Side::Ordinary].map(|side| calls_in_a_sample(case, side));
     let mut proved = Vec::with_capacity(SAMPLES);
     let mut ordinary = Vec::with_capacity(SAMPLES);
     for sample in 0..SAMPLES {
+        let depth = sample % DEPTHS;
+        let mut proved_once = |case: &mut Case| {
+            proved.push(deeper(depth, &mut || time(case, Side::Proved, calls[0])));
+        };
+        let mut ordinary_once = |case: &mut Case| {
+            ordinary.push(deeper(depth, &mut || time(case, Side::Ordinary, calls[1])));
+        };
         if sample % 2 == 0 {
-            proved.push(time(case, Side::Proved, calls[0]));
-            ordinary.push(time(case, Side::Ordinary, calls[1]));
+            proved_once(case);
+            ordinary_once(case);
         } else {
-            ordinary.push(time(case, Side::Ordinary, calls[1]));
-            proved.push(time(case, Side::Proved, calls[0]));
+            ordinary_once(case);
+            proved_once(case);
         }
     }
     let mut ratios: Vec<f64> = proved.iter().zip(&ordinary).map(|(p, o)| p / o).collect();
@@ -58,6 +70,18 @@ fn calls_in_a_sample(case: &mut Case, side: Side) -> u32 {
         }
         calls *= 2;
     }
+}
+
+/// What the job answers when it is called so many frames further down.
+#[inline(never)]
+fn deeper(frames: usize, job: &mut dyn FnMut() -> f64) -> f64 {
+    let frame = black_box([0u8; 16]);
+    let answer = match frames {
+        0 => job(),
+        _ => deeper(frames - 1, job),
+    };
+    black_box(frame);
+    answer
 }
 
 /// Microseconds for one call, out of this many.
