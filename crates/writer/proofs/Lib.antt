@@ -1,6 +1,5 @@
-pub mod Printing
-pub mod Decimal
 pub mod Signs
+pub mod Lengths
 pub mod Texts
 pub mod Whole
 pub mod Once

@@ -2,11 +2,11 @@
 --     named-on, named-off      a record whose action has its name, and one whose action has none
 --     Texting                  what is written of the text before record number i + 1
 --     texting, text-turn, text-end     behind the first record; one record more; the end
---     first-one                the first record, and those behind it
+--     no-one, first-one        no record; the first record, and those behind it
 use mathlib.Core.Path.{_≡_, refl, sym, ap, _∙_}
 use mathlib.Core.Bool.{Bool, true, false, cond}
 use mathlib.Core.List.{List, [], _∷_, _++_, append-nil, append-assoc}
-use Prim.Native.Nat.{ℕ, zero, suc, _+_, _*_, _-_, _≤_, _<_}
+use Prim.Native.Nat.{ℕ, suc, _+_, _-_, _≤_, _<_}
 use native.Mathlib.Numerals.{add-one}
 use native.Mathlib.Omega.{arith}
 use lib.Dec.{eqb}
@@ -20,8 +20,9 @@ use Rattle.text.specs.Names.{proper}
 use Rattle.text.specs.Writing.{written, furtherOnes, textOf, namelessFrom, nameless}
 use Rattle.records.specs.Reading.{recAt}
 use Rattle.records.proofs.Writing.{rest, rec-drop}
-use Rattle.writer.specs.Printed.{Printed, hasName}
-use Rattle.writer.proofs.Printing.{none, printed-as, more}
+use Rattle.print.specs.Printing.{Printed}
+use Rattle.print.proofs.Printing.{print-none, print-more, print-as}
+use Rattle.writer.specs.Named.{hasName}
 
 -- the record after the first i
 module _ (s : List ℕ) (i : ℕ) (lt : i < count s) where
@@ -53,38 +54,38 @@ module _ (s : List ℕ) (i : ℕ) (lt : i < count s) where
 pub none-behind : (s : List ℕ) (i : ℕ) → count s ≤ i → drop i (records s) ≡ []
 none-behind s i h = drop-of-length-le (records s) {i = i} (omega (arith, records-length s))
 
-pub first-one : (es : List (List ℕ)) (s : List ℕ) (r : Rec) → 0 < count s → r ≡ recAt s 1 → written es r ++ furtherOnes es (drop 1 (records s)) ≡ textOf es (records s)
+pub no-one : (es : List (List ℕ)) (s : List ℕ) → count s ≡ 0 → textOf es (records s) ≡ []
 unfolding textOf
-first-one es s r lt e = rw e (sym (ap (textOf es) (behind s 0 lt)))
+no-one es s h = ap (textOf es) (none-behind s 0 (omega arith))
+
+pub first-one : (es : List (List ℕ)) (s : List ℕ) (r : Rec) → ¬ (count s ≡ 0) → r ≡ recAt s 1 → textOf es (records s) ≡ written es r ++ furtherOnes es (drop 1 (records s))
+unfolding textOf
+first-one es s r h e = rw e (ap (textOf es) (behind s 0 (omega arith)))
 
 pub record Texting (es : List (List ℕ)) (s o w : List ℕ) (at i : ℕ) : Type 0 where
   pub done : i ≤ count s
   pub before : List ℕ
   pub wrote : Printed before o w at
   pub whole : furtherOnes es (drop 1 (records s)) ≡ before ++ furtherOnes es (drop i (records s))
-  pub same : length w ≡ length o
-  pub few : at + 21 ≤ 21 * i
 
 module _ (es : List (List ℕ)) (s o : List ℕ) where
   pub texting : 1 ≤ count s → Texting es s o o 0 1
-  texting h = record { done = h; before = []; wrote = none o; whole = refl; same = refl; few = omega arith }
+  texting h = record { done = h; before = []; wrote = print-none o; whole = refl }
 
   module _ {w : List ℕ} {at i : ℕ} (g : Texting es s o w at i) where
-    pub text-turn : {ys : List ℕ} {k : ℕ} (r : Rec) → i < count s → r ≡ recAt s (i + 1) → Printed (ascii "; " ++ written es r) (rest w at) ys k → k ≤ 21
-        → length (putMid at (length w - at) w ys) ≡ length w → Texting es s o (putMid at (length w - at) w ys) (at + k) (i + 1)
+    pub text-turn : {ys : List ℕ} {k : ℕ} (r : Rec) → i < count s → r ≡ recAt s (i + 1) → Printed (ascii "; " ++ written es r) (rest w at) ys k
+        → Texting es s o (putMid at (length w - at) w ys) (at + k) (i + 1)
     unfolding furtherOnes
-    text-turn r lt e p le same = record {
+    text-turn r lt e p = record {
       done = omega arith;
       before = g .before ++ (ascii "; " ++ written es r);
-      wrote = more (g .wrote) p;
+      wrote = print-more (g .wrote) p;
       whole = g .whole
           ∙ ap (λ rs. g .before ++ furtherOnes es rs) (behind s i lt)
           ∙ rw (← e) (sym (append-assoc (g .before) (ascii "; " ++ written es r) (furtherOnes es (drop (i + 1) (records s)))));
-      same = same ∙ g .same;
-      few = omega (arith, g .few);
     }
 
     pub text-end : count s ≤ i → Printed (furtherOnes es (drop 1 (records s))) o w at
     unfolding furtherOnes
     text-end h =
-        printed-as (sym (g .whole ∙ ap (λ rs. g .before ++ furtherOnes es rs) (none-behind s i h) ∙ append-nil (g .before))) (g .wrote)
+        print-as (g .whole ∙ ap (λ rs. g .before ++ furtherOnes es rs) (none-behind s i h) ∙ append-nil (g .before)) (g .wrote)

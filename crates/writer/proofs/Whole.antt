@@ -2,7 +2,7 @@
 --     too-short, shown     by the room for the text
 --     refuses              a refusal writes nothing
 --     equally              the same verdict by another name
---     unchecked, few       by the routine's own checks
+--     unchecked, fits      by the routine's own checks; a text that is not refused has at most 10,752 bytes
 --     ragged, too-many, nameless-at, all-named     by the list and the names
 use mathlib.Core.Path.{_≡_, refl, sym, ap, _∙_, subst}
 use mathlib.Core.Bool.{not, _||_, cond}
@@ -17,10 +17,14 @@ use Rattle.rules.specs.declared.Refusal.the-variants.{Room}
 use Rattle.rules.specs.declared.Verdict.the-variants as verdict
 use Rattle.rules.specs.declared.Notation.the-variants.{Routine}
 use Rattle.rules.specs.Record.{count, records}
+use Rattle.rules.specs.Instruction.{ops}
 use Rattle.rules.specs.Refusals.{first, verdictOf}
 use Rattle.rules.specs.Refusals as paper
 use Rattle.rules.specs.Checks.{most, recordChecks}
 use Rattle.rules.specs.Answers.{checkRecords}
+use Rattle.rules.proofs.Records.{All, Small, records-length}
+use Rattle.rules.proofs.Instructions.{accepted-ops, accepted-records}
+use Rattle.rules.proofs.Fits.{all-fit-small}
 use Rattle.rules.proofs.Refusals.{accepted-none, held}
 use Rattle.text.specs.declared.TextRefusal.{TextRefusal}
 use Rattle.text.specs.declared.TextRefusal.the-variants.{Name, Earlier}
@@ -29,16 +33,19 @@ use Rattle.text.specs.declared.TextVerdict.the-variants.{Done, Refused}
 use Rattle.text.specs.Names.{entries, listFault}
 use Rattle.text.specs.Writing.{textOf, nameless}
 use Rattle.text.specs.Answers.{writes, orElse, writing, filled, Answered, textWritten}
-use Rattle.writer.specs.Printed.{Printed}
+use Rattle.print.specs.Printing.{Printed}
+use Rattle.print.proofs.Printing.{print-all}
+use Rattle.writer.proofs.Lengths.{text-length}
 
-module _ {u text : List ℕ} where
-  pub too-short : length text < length u → Answered (writes 0 u text) u text (Refused (Earlier Room)) text
+-- k is how long the text u is.
+module _ {u text : List ℕ} {k : ℕ} (e : k ≡ length u) where
+  pub too-short : length text < k → Answered (writes 0 u text) u text (Refused (Earlier Room)) text
   unfolding writes filled
-  too-short h = record { answers = rw (lt-ltb _ _ h); output = rw (lt-ltb _ _ h) }
+  too-short h = let l = rw e at h in record { answers = rw (lt-ltb _ _ l); output = rw (lt-ltb _ _ l) }
 
-  pub shown : {w : List ℕ} {k j : ℕ} → length u ≤ length text → k ≡ length u → Printed u text w j → Answered (writes 0 u text) u text (Done k) w
+  pub shown : {w : List ℕ} {j : ℕ} → k ≤ length text → Printed u text w j → Answered (writes 0 u text) u text (Done k) w
   unfolding writes filled
-  shown h e v = record { answers = rw (le-ltb _ _ h, e); output = rw (le-ltb _ _ h) (v .holds ∙ rw (v .count)) }
+  shown h v = let l = rw e at h in let a = print-all v l in record { answers = rw (le-ltb _ _ l, e); output = rw (le-ltb _ _ l) (a .holds ∙ rw (a .count)) }
 
 pub refuses : {v : TextVerdict} {u o : List ℕ} (r : TextRefusal) → v ≡ Refused r → Answered v u o (Refused r) o
 unfolding filled
@@ -61,9 +68,12 @@ module _ (s l text : List ℕ) where
       by (some q) e = let d : r ≡ q = cc in ap (λ (x : Refusal). Refused (Earlier x)) (sym d)
 
   module _ {n : ℕ} (h : verdict.Accepted n ≡ checkRecords Routine s) where
-    pub few : count s ≤ 512
-    unfolding most
-    few = held Routine s n (sym h) .fines .few
+    pub fits : length (textWritten s l) ≤ 10752
+    unfolding most textWritten
+    fits =
+        let f = held Routine s n (sym h) .fines in
+        let small = subst (All Small) (accepted-records Routine s (f .faultless) tt) (all-fit-small (ops s) (accepted-ops Routine s (f .faultless) tt)) in
+        omega (arith, text-length (entries l) (records s) small, records-length s, f .few)
 
     checked : writing s l text ≡ Later
     unfolding writing orElse checkRecords

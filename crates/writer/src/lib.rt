@@ -1,9 +1,12 @@
-// A routine written as text.
+// A routine written as text. Each writer puts as much of its text as fits at the start of the part lent, and answers how many bytes.
 use checks::check_records;
 use forms::letter_of;
 use forms::sign;
 use names::is_proper;
 use names::name_size;
+use print::put_form;
+use print::put_number;
+use print::put_word;
 use records::kind_at;
 use records::x_at;
 use records::y_at;
@@ -14,51 +17,15 @@ use text::TextRefusal;
 use text::TextVerdict;
 ghost use mathlib.Core.Path.{_≡_};
 ghost use mathlib.Core.List.{_++_};
-ghost use Prim.Native.Nat.{_+_, _*_, _-_, _≤_};
+ghost use Prim.Native.Nat.{_*_, _-_, _≤_};
 ghost use lib.ListN.{length, drop};
 ghost use Rattle.rules.specs.Record.{rec, count, records};
 ghost use Rattle.text.specs.Bytes.{ascii};
 ghost use Rattle.text.specs.Names.{entries, nameOf};
-ghost use Rattle.text.specs.Writing.{decimal, labelName, writtenSign, formOf, written, furtherOnes, textOf, nameless};
+ghost use Rattle.text.specs.Writing.{writtenSign, formOf, written, furtherOnes, textOf, nameless};
 ghost use Rattle.text.specs.Answers.{writing, textWritten, writes, Answered};
-ghost use Rattle.writer.specs.Printed.{Printed, hasName};
-
-// A word at the start of the part lent, as every writer here prints its own text: it answers how many bytes.
-fn put_word(word: &[u8], text: &mut [u8]) -> usize
-    requires { ⌜ length (now word) ≤ length (now text) ⌝ }
-    ensures { λ r. ⌜ Printed (now (word .entry)) (now (text .entry)) (now (text .exit)) r ⌝ }
-{
-    let n = word.len();
-    let mut i = 0;
-    while i < n {
-        text[i] = word[i];
-        i += 1;
-    }
-    n
-}
-
-// A number in decimal: its last digit behind the digits of its tenth.
-fn put_number(n: usize, text: &mut [u8]) -> usize
-    requires { ⌜ length (decimal n) ≤ length (now text) ⌝ }
-    ensures { λ r. ⌜ Printed (decimal n) (now (text .entry)) (now (text .exit)) r ⌝ }
-{
-    if n < 10 {
-        text[0] = 48 + n as u8;
-        return 1;
-    }
-    let at = put_number(n / 10, text);
-    text[at] = 48 + (n % 10) as u8;
-    at + 1
-}
-
-// A label: L and its number.
-fn put_label(n: u16, text: &mut [u8]) -> usize
-    requires { ⌜ length (labelName n) ≤ length (now text) ⌝ }
-    ensures { λ r. ⌜ Printed (labelName n) (now (text .entry)) (now (text .exit)) r ⌝ }
-{
-    let at = put_word(b"L", text);
-    at + put_number(n as usize, &mut text[at..])
-}
+ghost use Rattle.print.specs.Printing.{Printed};
+ghost use Rattle.writer.specs.Named.{hasName};
 
 fn entry_start(e: u16) -> usize
     ensures { λ r. ⌜ r ≡ 16 * (e - 1) ⌝ }
@@ -71,7 +38,6 @@ fn entry_start(e: u16) -> usize
 
 // The name of action e in the list.
 fn put_name(names: &[u8], e: u16, text: &mut [u8]) -> usize
-    requires { ⌜ length (nameOf (entries (now names)) e) ≤ length (now text) ⌝ }
     ensures { λ r. ⌜ Printed (nameOf (entries (now (names .entry))) e) (now (text .entry)) (now (text .exit)) r ⌝ }
 {
     let n = name_size(names, e as usize);
@@ -82,9 +48,8 @@ fn put_name(names: &[u8], e: u16, text: &mut [u8]) -> usize
     put_word(&names[from..from + n], text)
 }
 
-// A sign of a form.
+// A sign of a form: a name, a number, a label as L and its number, or itself.
 fn put_sign(names: &[u8], p: u8, kind: u8, x: u16, y: u16, text: &mut [u8]) -> usize
-    requires { ⌜ length (writtenSign (entries (now names)) (rec kind x y) p) ≤ length (now text) ⌝ }
     ensures { λ r. ⌜ Printed (writtenSign (entries (now (names .entry))) (rec kind x y) p) (now (text .entry)) (now (text .exit)) r ⌝ }
 {
     if p == b'a' {
@@ -94,10 +59,13 @@ fn put_sign(names: &[u8], p: u8, kind: u8, x: u16, y: u16, text: &mut [u8]) -> u
         return put_number(x as usize, text);
     }
     if p == b's' {
-        return put_label(x, text);
+        return put_form(b"Lx", x as usize, 0, text);
     }
     if p == b't' {
-        return put_label(y, text);
+        return put_form(b"Lx", y as usize, 0, text);
+    }
+    if text.len() == 0 {
+        return 0;
     }
     text[0] = p;
     1
@@ -113,10 +81,9 @@ fn form_of(kind: u8, x: u16, y: u16) -> usize
     if x == 0 { 17 } else { 4 }
 }
 
-// The instruction of a record, of at most 19 bytes.
+// The instruction of a record, each sign of its form into the unwritten rest.
 fn put_instruction(names: &[u8], kind: u8, x: u16, y: u16, text: &mut [u8]) -> usize
-    requires { ⌜ 19 ≤ length (now text) ⌝ }
-    ensures { λ r. ⌜ Printed (written (entries (now (names .entry))) (rec kind x y)) (now (text .entry)) (now (text .exit)) r × (r ≤ 19) ⌝ }
+    ensures { λ r. ⌜ Printed (written (entries (now (names .entry))) (rec kind x y)) (now (text .entry)) (now (text .exit)) r ⌝ }
 {
     let form = form_of(kind, x, y);
     let mut at = 0;
@@ -133,8 +100,7 @@ fn put_instruction(names: &[u8], kind: u8, x: u16, y: u16, text: &mut [u8]) -> u
 
 // The same behind another.
 fn put_further(names: &[u8], kind: u8, x: u16, y: u16, text: &mut [u8]) -> usize
-    requires { ⌜ 21 ≤ length (now text) ⌝ }
-    ensures { λ r. ⌜ Printed (ascii "; " ++ written (entries (now (names .entry))) (rec kind x y)) (now (text .entry)) (now (text .exit)) r × (r ≤ 21) ⌝ }
+    ensures { λ r. ⌜ Printed (ascii "; " ++ written (entries (now (names .entry))) (rec kind x y)) (now (text .entry)) (now (text .exit)) r ⌝ }
 {
     let at = put_word(b"; ", text);
     at + put_instruction(names, kind, x, y, &mut text[at..])
@@ -142,7 +108,7 @@ fn put_further(names: &[u8], kind: u8, x: u16, y: u16, text: &mut [u8]) -> usize
 
 // The instructions behind the first, each into the unwritten rest.
 fn put_others(routine: &[u8], names: &[u8], text: &mut [u8]) -> usize
-    requires { ⌜ (1 ≤ count (now routine)) × (21 * count (now routine) ≤ length (now text) + 21) ⌝ }
+    requires { ⌜ 1 ≤ count (now routine) ⌝ }
     ensures { λ r. ⌜ Printed (furtherOnes (entries (now (names .entry))) (drop 1 (records (now (routine .entry))))) (now (text .entry)) (now (text .exit)) r ⌝ }
 {
     let n = routine.len() / 8;
@@ -163,7 +129,6 @@ fn put_others(routine: &[u8], names: &[u8], text: &mut [u8]) -> usize
 
 // The text of a routine.
 fn put_text(routine: &[u8], names: &[u8], text: &mut [u8]) -> usize
-    requires { ⌜ (count (now routine) ≤ 512) × (10752 ≤ length (now text)) ⌝ }
     ensures { λ r. ⌜ Printed (textOf (entries (now (names .entry))) (records (now (routine .entry)))) (now (text .entry)) (now (text .exit)) r ⌝ }
 {
     if routine.len() / 8 == 0 {
@@ -211,7 +176,7 @@ fn first_nameless(routine: &[u8], names: &[u8]) -> usize
 
 // The text where it has room, by way of a page that has room for every text, so that a refused call writes nothing.
 fn show(routine: &[u8], names: &[u8], text: &mut [u8]) -> TextVerdict
-    requires { ⌜ count (now routine) ≤ 512 ⌝ }
+    requires { ⌜ length (textWritten (now routine) (now names)) ≤ 10752 ⌝ }
     ensures { λ r. ⌜ Answered (writes 0 (textWritten (now (routine .entry)) (now (names .entry))) (now (text .entry))) (textWritten (now (routine .entry)) (now (names .entry))) (now (text .entry)) r (now (text .exit)) ⌝ }
 {
     let mut page = [0u8; 10752];

@@ -1,6 +1,6 @@
 use borrow.Author.Needs.{needs}
 use borrow.Author.Tests.{eq-eqb, ne-eqb}
-use Rattle.writer.specs.Printed.{hasName}
+use Rattle.writer.specs.Named.{hasName}
 use Rattle.writer.proofs.has_name.Statement.{statement}
 use Rattle.writer.proofs.has_name.Tie as tie
 

@@ -6,7 +6,7 @@ use lib.ListN.{length, take, drop}
 use borrow.Author.Needs.{needs}
 use Rattle.text.specs.Names.{entries, nameOf}
 use Rattle.names.proofs.Entries.{name-part}
-use Rattle.writer.proofs.Printing.{none, printed-as}
+use Rattle.print.proofs.Printing.{print-none, print-as}
 use Rattle.writer.proofs.put_name.Statement.{statement}
 use Rattle.writer.proofs.put_name.Tie as tie
 
@@ -27,9 +27,9 @@ pub put-name-spec : {M : Type 1} → statement M
 put-name-spec =
     tie.close
     (tie.spec (λ c κs. search needs)
-    (λ c. let a = c .before .before .before .before .args in printed-as (sym (empty (nameOf (entries (a .names .now)) (a .e)) (sym (c .before .name-size .ensures) ∙ c .if1 .taken))) (none (a .text .now)))
+    (λ c. print-as (empty _ (sym (c .before .name-size .ensures) ∙ c .if1 .taken)) (print-none _))
     (λ c κs. search needs)
     (λ c. omega (arith, part c)) (λ c. omega arith) (λ c. omega (arith, part c)) (λ c. omega (arith, part c))
-    (λ c κs. rw (part (c .before .before) .1) (omega arith))
+    (λ c κs. search needs)
     (λ c. search needs)
-    (λ c. printed-as (part (c .before .before .before .before .before) .1) (c .before .before .put-word .ensures)))
+    (λ c. print-as (sym (part (c .before .before .before .before .before) .1)) (c .before .before .put-word .ensures)))

@@ -1,25 +1,29 @@
-use mathlib.Core.Path.{_≡_, sym, _∙_}
-use native.Mathlib.Omega.{arith}
+use mathlib.Core.Path.{sym}
 use Prim.Native.Nat.{ℕ}
-use lib.ListN.{length, length-replicate}
-use lib.Seq.{length-take-le}
 use borrow.Author.Needs.{needs}
+use lib.ListN.{replicate, length-replicate}
 use Rattle.text.specs.Answers.{textWritten}
-use Rattle.writer.proofs.Printing.{sizes, page}
+use Rattle.print.proofs.Printing.{Whole, in-array, part, page}
 use Rattle.writer.proofs.Whole.{too-short, shown}
 use Rattle.writer.proofs.show.Statement.{statement}
 use Rattle.writer.proofs.show.Tie as tie
 
-pub show-spec : {M : Type 1} → statement M
+-- The page has room for the text.
+whole : (c : tie.After-put-text) → let a = c .before .before .before .before .before .args in Whole (textWritten (a .routine .now) (a .names .now)) (replicate 10752 0) (c .put-text .last .1 .1 .0) (c .put-text .result)
 unfolding textWritten
+whole c = in-array 10752 (length-replicate {A = ℕ} 10752 0) (c .before .before .before .before .before .pre) (c .put-text .ensures)
+
+pub show-spec : {M : Type 1} → statement M
 show-spec =
     tie.close
     (tie.spec
     (λ c. sym (length-replicate {A = ℕ} 10752 0))
-    (λ c κs. (omega arith, omega (arith, length-replicate {A = ℕ} 10752 0)))
-    (λ c. too-short (omega (arith, c .before .before .put-text .ensures .count)))
-    (λ c. omega (arith, sizes (c .before .before .put-text .ensures), length-replicate {A = ℕ} 10752 0))
-    (λ c. rw (page (c .before .before .before .put-text .ensures)) (c .before .before .before .put-text .ensures .count))
-    (λ c κs. rw (page (c .before .before .before .before .put-text .ensures)) (omega (arith, c .before .before .before .before .put-text .ensures .count)))
+    (λ c κs. search needs)
+    (λ c. too-short (whole (c .before .before) .count) (c .if1 .taken))
+    (λ c. part (c .before .before .put-text .ensures))
+    (λ c. rw (page (whole (c .before .before .before))) (whole (c .before .before .before) .count))
+    (λ c κs. search needs)
     (λ c. search needs)
-    (λ c. shown (omega (arith, c .before .before .before .before .before .before .before .put-text .ensures .count)) (c .before .before .before .before .before .before .before .put-text .ensures .count) (rw (page (c .before .before .before .before .before .before .before .put-text .ensures)) at (c .before .before .put-word .ensures))))
+    (λ c.
+    let w = whole (c .before .before .before .before .before .before .before) in
+    shown (w .count) (c .before .before .before .before .before .if1 .left) (rw (page w) at (c .before .before .put-word .ensures))))

@@ -1,7 +1,7 @@
 use mathlib.Core.Path.{_≡_, sym, _∙_}
 use borrow.Author.Needs.{needs}
 use Rattle.text.specs.declared.TextRefusal.the-variants.{Name, Earlier}
-use Rattle.writer.proofs.Whole.{refuses, equally, unchecked, few, ragged, too-many, nameless-at, all-named}
+use Rattle.writer.proofs.Whole.{refuses, equally, unchecked, fits, ragged, too-many, nameless-at, all-named}
 use Rattle.writer.proofs.write_text.Statement.{statement}
 use Rattle.writer.proofs.write_text.Tie as tie
 
@@ -16,7 +16,7 @@ write-text-spec =
     (λ c κs. search needs)
     (λ c. let a = c .before .before .before .before .before .before .before .before .before .before .args in let p = c .before .first-nameless in
     refuses (Name (p .result)) (nameless-at (a .routine .now) (a .names .now) (a .text .now) (sym (c .before .before .before .before .enum-told .given .1) ∙ c .before .before .before .before .before .before .check-records .ensures) (c .before .before .before .if1 .left) (c .before .before .if2 .left) (p .result) (p .ensures) (c .if3 .taken)))
-    (λ c κs. let a = c .before .before .before .before .before .before .before .before .before .before .before .args in few (a .routine .now) (a .names .now) (a .text .now) (sym (c .before .before .before .before .before .enum-told .given .1) ∙ c .before .before .before .before .before .before .before .check-records .ensures))
+    (λ c κs. let a = c .before .before .before .before .before .before .before .before .before .before .before .args in fits (a .routine .now) (a .names .now) (a .text .now) (sym (c .before .before .before .before .before .enum-told .given .1) ∙ c .before .before .before .before .before .before .before .check-records .ensures))
     (λ c. let a = c .before .before .before .before .before .before .before .args in let r = c .before .checked .given .0 .0 in
     refuses (Earlier r) (unchecked (a .routine .now) (a .names .now) (a .text .now) r (sym (c .before .checked .given .1) ∙ c .before .before .before .check-records .ensures)))
     (λ c. search needs)
