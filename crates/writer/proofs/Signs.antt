@@ -16,7 +16,7 @@ use Rattle.text.specs.Bytes.{byteAt}
 use Rattle.text.specs.Forms.{a, k, s, t, forms, signsOf}
 use Rattle.text.specs.Names.{nameOf, entry}
 use Rattle.text.specs.Writing.{decimal, labelName, writtenSign, writtenSigns}
-use Rattle.forms.proofs.Follow.{each, sign-some, sign-none}
+use Rattle.signs.proofs.Signs.{each, sign-some, sign-none}
 use Rattle.names.proofs.Same.{run-most}
 use Rattle.records.proofs.Writing.{rest}
 use Rattle.writer.specs.Printed.{Printed}

@@ -1,7 +1,5 @@
 // A routine written as text.
 use checks::check_records;
-use forms::letter_of;
-use forms::sign;
 use names::is_proper;
 use names::name_size;
 use records::kind_at;
@@ -10,6 +8,8 @@ use records::y_at;
 use rules::Notation;
 use rules::Refusal;
 use rules::Verdict;
+use signs::letter_of;
+use signs::sign;
 use text::TextRefusal;
 use text::TextVerdict;
 ghost use mathlib.Core.Path.{_≡_};

@@ -7,7 +7,7 @@ use Rattle.rules.specs.Record.{rec}
 use Rattle.text.specs.Forms.{signsOf}
 use Rattle.text.specs.Names.{entries}
 use Rattle.text.specs.Writing.{writtenSign, writtenSigns}
-use Rattle.forms.proofs.Follow.{sign-eight}
+use Rattle.signs.proofs.Signs.{sign-eight}
 use Rattle.writer.proofs.Printing.{printed-as, sizes}
 use Rattle.writer.proofs.Signs.{written-length, Signing, signing, sign-end, sign-room, sign-turn}
 use Rattle.writer.proofs.put_instruction.Statement.{statement}
