@@ -14,7 +14,7 @@ use Rattle.text.specs.Bytes.{byteAt, span}
 use Rattle.text.specs.Forms.{a, k, s, t, signsOf, takeSign, xAt, yAt, ending, fit, going, follow, fitOf, further, bestTo}
 use Rattle.text.proofs.Tests.{cond-has}
 use Rattle.text.proofs.Reach.{span-within, Reach, take-reach}
-use Rattle.forms.proofs.Follow.{positive, above, all-positive}
+use Rattle.signs.proofs.Signs.{positive, above, all-positive}
 
 pub record Inside (w : List ℕ) (at n : ℕ) (f : Fit) : Type 0 where
   pub number : f .form ≤ n

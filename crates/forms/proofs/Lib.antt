@@ -1,6 +1,4 @@
-pub mod Runs
-pub mod Table
-pub mod Follow
+pub mod Families
 pub mod Starts
 pub mod Inside
 pub mod Once

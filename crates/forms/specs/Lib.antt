@@ -1,2 +1,2 @@
-pub mod Blankless
+pub mod Families
 pub mod Starts

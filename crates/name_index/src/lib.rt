@@ -1,6 +1,6 @@
 // Actions looked up by their name through an index of the list: names are parted by a number that their bytes give, and each entry
 // leads to the next one with the same number. The first entry of each number is in one table, and where each entry leads in another.
-use forms::span_of;
+use runs::span_of;
 use text::Sort;
 ghost use mathlib.Core.Path.{_≡_};
 ghost use Prim.Native.Nat.{_+_, _≤_, _<_};

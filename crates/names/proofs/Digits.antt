@@ -10,7 +10,7 @@ use Rattle.text.specs.declared.Sort.the-variants.{Digit}
 use Rattle.text.specs.Bytes.{byteAt, digit, inSort, run}
 use Rattle.text.specs.Names.{valueOf}
 use Rattle.text.proofs.Tests.{by-test}
-use Rattle.forms.proofs.Runs.{run-on, run-off}
+use Rattle.runs.proofs.Runs.{run-on, run-off}
 
 -- ten to the i
 abbrev pub tens : ℕ → ℕ

@@ -19,7 +19,7 @@ use Rattle.text.specs.Bytes.{byteAt, span}
 use Rattle.text.specs.Names.{nameAt, same, entriesOf, entries, padded, entry, nameOf, proper}
 use Rattle.text.proofs.Tests.{by-test}
 use Rattle.text.proofs.Reach.{past-end, span-within}
-use Rattle.forms.proofs.Runs.{run-off, span-off}
+use Rattle.runs.proofs.Runs.{run-off, span-off}
 use Rattle.names.proofs.Same.{same-on, same-off, run-most, run-take, run-same, padded-length}
 
 module _ (l : List ℕ) (from : ℕ) (room : from + 16 ≤ length l) where

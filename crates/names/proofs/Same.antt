@@ -1,7 +1,7 @@
 -- Bytes compared, and the bytes of runs.
 --     same-on, same-off     one byte more, or one that differs
 --     same-sizes            lists of different length differ
---     in-run, run-get       a byte of a run is one of the text
+--     run-get               a byte of a run is one of the text
 --     run-take              a run is a part of the text
 --     run-same              runs over the same bytes are the same
 --     padded-get            padding adds zeros
@@ -19,8 +19,7 @@ use Rattle.text.specs.declared.Sort.{Sort}
 use Rattle.text.specs.Bytes.{byteAt, inSort, run, span}
 use Rattle.text.specs.Names.{same, padded}
 use Rattle.text.proofs.Tests.{by-test}
-use Rattle.text.proofs.Reach.{past-end, in-text, span-within}
-use Rattle.forms.proofs.Runs.{span-off}
+use Rattle.text.proofs.Reach.{in-text}
 
 module _ (u v : List ℕ) (m : ℕ) (hu : m < length u) (hv : m < length v) where
   pub same-on : getD u m 0 ≡ getD v m 0 → same (drop m u) (drop m v) ≡ same (drop (m + 1) u) (drop (m + 1) v)
@@ -32,12 +31,6 @@ module _ (u v : List ℕ) (m : ℕ) (hu : m < length u) (hv : m < length v) wher
   same-off e = rw (drop-cons u m 0 hu, drop-cons v m 0 hv, ne-eqb (getD u m 0) (getD v m 0) e)
 
 module _ (c : Sort) (w : List ℕ) where
-  pub in-run : (at n m : ℕ) → m < span c w at n → at + m < length w
-  in-run at n m h =
-      by-test (ltb (length w) at)
-      (λ e. absurd (omega (arith, span-off c w at n (past-end c w at (omega (arith, ltb-true (length w) at e))))))
-      (λ e. omega (arith, span-within c w at n (ltb-false (length w) at e)))
-
   pub run-get : (at n m : ℕ) → m < span c w at n → getD (run c w at n) m 0 ≡ byteAt w (at + m)
   unfolding run
   run-get at zero m h = absurd (omega arith)

@@ -1,7 +1,7 @@
 // Names and numbers of a text: whether an entry of the lent list is a proper name, how long it is, and the number that digits are.
-use forms::byte_at;
-use forms::in_sort;
-use forms::span_of;
+use runs::byte_at;
+use runs::in_sort;
+use runs::span_of;
 use text::Sort;
 ghost use mathlib.Core.Path.{_≡_};
 ghost use Prim.Native.Nat.{_+_, _-_, _≤_};

@@ -13,7 +13,7 @@ use Rattle.text.specs.declared.Sort.the-variants.{Named}
 use Rattle.text.specs.Bytes.{byteAt, inSort, run, span}
 use Rattle.text.specs.Names.{same}
 use Rattle.text.proofs.Tests.{by-test}
-use Rattle.forms.proofs.Runs.{run-on, run-off, span-off}
+use Rattle.runs.proofs.Runs.{run-on, run-off, span-off}
 
 pub in-name : (c : Sort) (w : List ℕ) (at n : ℕ) → 0 < span c w at n → inSort c (byteAt w at) ≡ true
 in-name c w at n h = by-test (inSort c (byteAt w at)) (λ t. t) (λ t. absurd (omega (arith, span-off c w at n t)))

@@ -1,15 +1,15 @@
 // A typed routine read to its records. No name is copied: a label is known by the place where it first stood, and the text is compared
 // with itself.
 use forms::best;
-use forms::byte_at;
-use forms::in_sort;
-use forms::letter_of;
-use forms::span_of;
 use name_index::fill_index;
 use name_index::indexed_action;
 use names::number_at;
 use records::put_record;
 use rules::Refusal;
+use runs::byte_at;
+use runs::in_sort;
+use runs::span_of;
+use signs::letter_of;
 use text::Fit;
 use text::Sort;
 use text::TextRefusal;

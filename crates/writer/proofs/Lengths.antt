@@ -13,7 +13,7 @@ use Rattle.text.specs.Bytes.{ascii}
 use Rattle.text.specs.Forms.{a, k, s, t, forms, signsOf}
 use Rattle.text.specs.Names.{nameOf, entry}
 use Rattle.text.specs.Writing.{decimal, labelName, writtenSign, writtenSigns, formOf, written, furtherOnes, textOf}
-use Rattle.forms.proofs.Follow.{each}
+use Rattle.signs.proofs.Signs.{each}
 use Rattle.names.proofs.Same.{run-most}
 use Rattle.writer.proofs.Signs.{five-digits}
 

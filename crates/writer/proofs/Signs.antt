@@ -16,7 +16,7 @@ use Rattle.text.specs.Bytes.{byteAt}
 use Rattle.text.specs.Forms.{a, k, s, t, signsOf}
 use Rattle.text.specs.Names.{nameOf}
 use Rattle.text.specs.Writing.{digits, decimal, labelName, writtenSign, writtenSigns, formOf, written}
-use Rattle.forms.proofs.Follow.{sign-some, sign-none}
+use Rattle.signs.proofs.Signs.{sign-some, sign-none}
 use Rattle.records.proofs.Writing.{rest}
 use Rattle.print.specs.Text as print
 use Rattle.print.specs.Printing.{Printed}

@@ -1,7 +1,5 @@
 // A routine written as text. Each writer puts as much of its text as fits at the start of the part lent, and answers how many bytes.
 use checks::check_records;
-use forms::letter_of;
-use forms::sign;
 use names::is_proper;
 use names::name_size;
 use print::put_form;
@@ -13,6 +11,8 @@ use records::y_at;
 use rules::Notation;
 use rules::Refusal;
 use rules::Verdict;
+use signs::letter_of;
+use signs::sign;
 use text::TextRefusal;
 use text::TextVerdict;
 ghost use mathlib.Core.Path.{_≡_};

@@ -1,63 +1,35 @@
 use mathlib.Core.Path.{_≡_, sym, _∙_}
-use Prim.Native.Nat.{ℕ, suc, _+_, _-_, _≤_}
-use native.Mathlib.Numerals.{add-one}
 use native.Mathlib.Omega.{arith}
 use borrow.Author.Needs.{needs}
 use Rattle.text.specs.Bytes.{byteAt}
-use Rattle.text.specs.Forms.{bestTo, further, fitOf}
-use Rattle.forms.proofs.Follow.{best-out}
-use Rattle.forms.proofs.Starts.{further-far, left-out}
+use Rattle.parts.proofs.Further.{inside, bang, hash, star, plus, minus, square, bend}
+use Rattle.forms.proofs.Starts.{best-calls, best-bang, best-jumps, best-loop-end, best-plus, best-minus, best-label, best-ends, best-none}
 use Rattle.forms.proofs.best.Statement.{statement}
 use Rattle.forms.proofs.best.Tie as tie
 
-abbrev Inv-loop : tie.InvT-loop
-Inv-loop s at f₀ b n₀ f n = (n ≤ 17) × (f ≡ bestTo s at n) × (at ≤ f .far) × (b ≡ byteAt s at)
-
-abbrev μ-loop : tie.MeasureT-loop
-μ-loop s at f₀ b n₀ f n = 17 - n
-
-loop-holds : tie.Need-loop-holds Inv-loop μ-loop
-unfolding bestTo
-loop-holds c = (omega arith, c .before .before .fitted .ensures, rw (c .before .before .fitted .ensures) (omega arith), c .byte-at .ensures)
-
-loop-again : tie.Need-loop-again Inv-loop μ-loop
-unfolding bestTo
-loop-again c =
-    let l = c .before .before .before .before .before .loop in let a = c .before .before .before .before .before .before .before .before .before .before .args in (
-      omega arith,
-      c .further-of .ensures ∙ rw (l .inv .1, c .before .follow-form .ensures, add-one),
-      rw (c .further-of .ensures) (further-far (a .at) (l .f) (c .before .follow-form .result) (l .inv .2)),
-      l .inv .3,
-    )
-
-loop-again-2 : tie.Need-loop-again-2 Inv-loop μ-loop
-loop-again-2 c =
-    let l = c .before .before .before .loop in let a = c .before .before .before .before .before .before .before .before .args in (
-      omega arith,
-      left-out (a .s .now) (a .at) (l .n) (c .before .before .loop-test .taken) (l .inv .1) (l .inv .2) (l .inv .3) (c .before .can-start .ensures) (c .if2 .left),
-      l .inv .2,
-      l .inv .3,
-    )
-
-returns-2 : tie.Need-returns-2 Inv-loop μ-loop
-returns-2 c =
-    let e : c .before .loop .n ≡ 17 = omega arith in
-    rw e at (c .before .loop .inv .1)
+-- what is read at `at`
+byte : (c : tie.After-byte-at) (k : _) → c .byte-at .result ≡ k → let a = c .before .before .args in byteAt (a .s .now) (a .at) ≡ k
+byte c k e = sym (c .byte-at .ensures) ∙ e
 
 pub best-spec : {M : Type 1} → statement M
 best-spec =
     tie.close
-    (tie.spec Inv-loop μ-loop
+    (tie.spec (λ c κs. search needs) (λ c κs. search needs)
     (λ c κs. search needs)
-    (λ c. let a = c .before .before .before .args in c .before .fitted .ensures ∙ sym (best-out (a .s .now) (a .at) (omega arith) 17))
+    (λ c. let a = c .before .before .before .before .before .args in c .actions .ensures ∙ sym (best-calls (a .s .now) (a .at) _ (sym (c .before .before .before .byte-at .ensures)) (sym (c .before .before .in-sort .ensures) ∙ c .before .if1 .taken)))
+    (λ c. let a = c .before .before .before .before .before .args in omega (arith, inside (a .s .now) bang (a .at) (byte (c .before .before .before) _ (c .match .keys1)))) (λ c κs. search needs)
+    (λ c. let a = c .before .before .before .before .before .args in omega (arith, inside (a .s .now) hash (a .at) (byte (c .before .before .before) _ (c .match .keys2)))) (λ c κs. search needs)
+    (λ c. let a = c .before .before .before .before .before .args in omega (arith, inside (a .s .now) star (a .at) (byte (c .before .before .before) _ (c .match .keys3)))) (λ c κs. search needs)
+    (λ c. let a = c .before .before .before .before .before .args in omega (arith, inside (a .s .now) plus (a .at) (byte (c .before .before .before) _ (c .match .keys4)))) (λ c κs. search needs)
+    (λ c. let a = c .before .before .before .before .before .args in omega (arith, inside (a .s .now) minus (a .at) (byte (c .before .before .before) _ (c .match .keys5)))) (λ c κs. search needs)
+    (λ c. let a = c .before .before .before .before .before .args in omega (arith, inside (a .s .now) square (a .at) (byte (c .before .before .before) _ (c .match .keys6)))) (λ c κs. search needs)
+    (λ c. let a = c .before .before .before .before .before .args in omega (arith, inside (a .s .now) bend (a .at) (byte (c .before .before .before) _ (c .match .keys7)))) (λ c κs. search needs)
     (λ c κs. search needs)
-    loop-holds
-    (λ c. omega arith)
-    (λ c κs. search needs)
-    (λ c κs. omega arith)
-    (λ c κs. search needs)
-    (λ c. omega arith)
-    loop-again
-    (λ c. omega arith)
-    loop-again-2
-    returns-2)
+    (λ c. let a = c .before .before .before .before .before .before .args in c .end-of .ensures ∙ sym (best-bang (a .s .now) (a .at) (byte (c .before .before .before .before) _ (c .before .match .keys1))))
+    (λ c. let a = c .before .before .before .before .before .before .args in c .jumps .ensures ∙ sym (best-jumps (a .s .now) (a .at) (byte (c .before .before .before .before) _ (c .before .match .keys2))))
+    (λ c. let a = c .before .before .before .before .before .before .args in c .last-sign .ensures ∙ sym (best-loop-end (a .s .now) (a .at) (byte (c .before .before .before .before) _ (c .before .match .keys3))))
+    (λ c. let a = c .before .before .before .before .before .before .args in c .tests .ensures ∙ sym (best-plus (a .s .now) (a .at) (byte (c .before .before .before .before) _ (c .before .match .keys4))))
+    (λ c. let a = c .before .before .before .before .before .before .args in c .tests2 .ensures ∙ sym (best-minus (a .s .now) (a .at) (byte (c .before .before .before .before) _ (c .before .match .keys5))))
+    (λ c. let a = c .before .before .before .before .before .before .args in c .label .ensures ∙ sym (best-label (a .s .now) (a .at) (byte (c .before .before .before .before) _ (c .before .match .keys6))))
+    (λ c. let a = c .before .before .before .before .before .before .args in c .ends .ensures ∙ sym (best-ends (a .s .now) (a .at) (byte (c .before .before .before .before) _ (c .before .match .keys7))))
+    (λ c. let a = c .before .before .before .before .before .before .args in let r = c .before .match .rest in c .stuck .ensures ∙ sym (best-none (a .s .now) (a .at) _ (sym (c .before .before .before .before .byte-at .ensures)) (sym (c .before .before .before .in-sort .ensures) ∙ c .before .before .if1 .left) (r .0 .0 .0 .0 .0 .0 .1) (r .0 .0 .0 .0 .0 .1) (r .0 .0 .0 .0 .1) (r .0 .0 .0 .1) (r .0 .0 .1) (r .0 .1) (r .1))))

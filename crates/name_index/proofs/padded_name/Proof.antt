@@ -5,7 +5,8 @@ use lib.ListN.{length, length-set}
 use borrow.Author.Needs.{needs}
 use Rattle.text.specs.declared.Sort.the-variants.{Named}
 use Rattle.text.specs.Names.{nameAt}
-use Rattle.names.proofs.Same.{in-run, run-get, run-most}
+use Rattle.runs.proofs.Runs.{in-run}
+use Rattle.names.proofs.Same.{run-get, run-most}
 use Rattle.name_index.proofs.Bytes.{Copied, copy-start, copy-on, copy-end}
 use Rattle.name_index.proofs.padded_name.Statement.{statement}
 use Rattle.name_index.proofs.padded_name.Tie as tie

@@ -9,7 +9,7 @@ use Rattle.text.specs.declared.Sort.the-variants.{Digit}
 use Rattle.text.specs.Bytes.{byteAt, inSort, run}
 use Rattle.text.specs.Names.{valueOf, numberAt}
 use Rattle.text.proofs.Reach.{past-end, in-text}
-use Rattle.forms.proofs.Runs.{run-off}
+use Rattle.runs.proofs.Runs.{run-off}
 use Rattle.names.proofs.Digits.{tens, tens-on, tens-small, digit-range, number-on, number-off}
 use Rattle.names.proofs.number_at.Statement.{statement}
 use Rattle.names.proofs.number_at.Tie as tie

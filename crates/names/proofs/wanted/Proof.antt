@@ -4,7 +4,8 @@ use native.Mathlib.Omega.{arith}
 use lib.ListN.{length, List·getD-eq-default}
 use Rattle.text.specs.declared.Sort.the-variants.{Named}
 use Rattle.text.specs.Names.{nameAt}
-use Rattle.names.proofs.Same.{in-run, run-get, padded-get}
+use Rattle.runs.proofs.Runs.{in-run}
+use Rattle.names.proofs.Same.{run-get, padded-get}
 use Rattle.names.proofs.wanted.Statement.{statement}
 use Rattle.names.proofs.wanted.Tie as tie
 

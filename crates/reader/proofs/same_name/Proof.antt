@@ -8,7 +8,7 @@ use Rattle.text.specs.declared.Sort.the-variants.{Named}
 use Rattle.text.specs.Bytes.{byteAt, inSort, span}
 use Rattle.text.specs.Names.{nameAt, same}
 use Rattle.text.proofs.Reach.{in-text}
-use Rattle.forms.proofs.Runs.{span-on}
+use Rattle.runs.proofs.Runs.{span-on}
 use Rattle.names.proofs.Same.{run-most}
 use Rattle.reader.proofs.Names.{in-name, out-of-name, Left, name-on, name-off, name-end, name-full}
 use Rattle.reader.proofs.same_name.Statement.{statement}

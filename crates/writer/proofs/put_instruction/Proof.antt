@@ -5,7 +5,7 @@ use native.Mathlib.Omega.{arith}
 use borrow.Author.Needs.{needs}
 use Rattle.rules.specs.Record.{rec}
 use Rattle.text.specs.Names.{entries}
-use Rattle.forms.proofs.Follow.{sign-eight}
+use Rattle.signs.proofs.Signs.{sign-eight}
 use Rattle.print.proofs.Printing.{print-sizes, print-more}
 use Rattle.writer.proofs.Signs.{Signing, signing, sign-turn, sign-end}
 use Rattle.writer.proofs.put_instruction.Statement.{statement}

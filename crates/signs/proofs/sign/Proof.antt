@@ -1,0 +1,27 @@
+use mathlib.Core.Path.{_≡_, refl, sym, ap, _∙_}
+use mathlib.Core.List.{[], _∷_}
+use Prim.Native.Nat.{ℕ, _+_, _*_, _/_, _%_, _≤_}
+use native.Mathlib.Omega.{arith}
+use lib.Dec.{leb→le}
+use lib.ListN.{length, List·getD-eq-default}
+use borrow.Author.Needs.{needs}
+use Rattle.text.specs.Bytes.{byteAt}
+use Rattle.text.specs.Forms.{forms, signsOf}
+use Rattle.signs.specs.Blankless.{blankless}
+use Rattle.signs.proofs.Table.{entry, signAt}
+use Rattle.signs.proofs.Signs.{short, each}
+use Rattle.signs.proofs.sign.Statement.{statement}
+use Rattle.signs.proofs.sign.Tie as tie
+
+pub sign-spec : {M : Type 1} → statement M
+unfolding blankless
+sign-spec =
+    tie.close
+    (tie.spec (λ c. let a = c .before .before .args in sym (ap (λ f. byteAt f (a .j)) (List·getD-eq-default ([] ∷ forms) [] {n = a .i} (omega arith))))
+    (λ c. let a = c .before .before .before .args in sym (List·getD-eq-default (signsOf (a .i)) 0 (omega (arith, leb→le (length (signsOf (a .i))) 8 (each short tt ([] ∷ forms) (a .i) tt)))))
+    (λ c. search needs) (λ c. search needs) (λ c. search needs) (λ c κs. search needs)
+    (λ c. let a = c .before .before .before .before .before .args in
+    let n = 8 * a .i + a .j in
+    let e : n / 8 ≡ a .i = omega arith in
+    let d : n % 8 ≡ a .j = omega arith in
+    c .unspaced .ensures ∙ entry signAt 144 n refl (omega arith) ∙ ap (λ i. byteAt (signsOf i) (n % 8)) e ∙ ap (byteAt (signsOf (a .i))) d))
