@@ -17,7 +17,7 @@ use Rattle.rules.specs.Record.{Rec, recordOf}
 use Rattle.rules.specs.Table.{rows, relativeRows, rowOf}
 use Rattle.rules.specs.Refusals.{when, orElse, verdictOf}
 use Rattle.rules.specs.Checks.{listed, kindFault, fieldFault, fault, faultFrom}
-use Rattle.rules.proofs.Records.{record-drop}
+use Rattle.laws.proofs.Records.{record-drop}
 use Rattle.checks.specs.Ranges.{outside}
 use Rattle.kinds.proofs.Rows.{Found, found}
 

@@ -11,7 +11,7 @@ use Rattle.rules.specs.Table.{rowOf}
 use Rattle.rules.specs.Refusals.{when, orElse, first, verdictOf, verdict}
 use Rattle.rules.specs.Checks.{ragged, most, long, listed, kindFault, fieldFault, fault, faultFrom, recordChecks}
 use Rattle.rules.specs.Answers.{checkRecords}
-use Rattle.rules.proofs.Records.{All, Small, two-bytes, bytes-length, bytes-count}
+use Rattle.laws.proofs.Records.{All, Small, two-bytes, bytes-length, bytes-count}
 
 -- A record of the notation, with its fields in range.
 pub record Proper (nt : Notation) (r : Rec) : Type 0 where

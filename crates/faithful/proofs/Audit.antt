@@ -29,9 +29,9 @@ use Rattle.rules.specs.Step.{Deed, ask, leap, enter, leave, Mem, noReplyLeft, l
 use Rattle.rules.specs.Stack.{full}
 use Rattle.rules.specs.Run.{Run, oneMore, onward, run, startOf, freshMem, runs}
 use Rattle.rules.specs.Answers.{routineChecks, short, checkRecords, checkRoutine, filled, baseRecords, baseCount, converting, Converted, Call, ran, turnedAway, unless, noState, badReply, running, runRoutine, runBase}
-use Rattle.rules.proofs.Records.{at-getD, bytes-length, ops-length}
-use Rattle.rules.proofs.Refusals.{neither, or-none, first-append, accepted-none, accepted-count, admitted}
-use Rattle.rules.proofs.Runs.{run-steps, run-more}
+use Rattle.laws.proofs.Records.{at-getD, bytes-length, ops-length}
+use Rattle.laws.proofs.Refusals.{neither, or-none, first-append, accepted-none, accepted-count, admitted}
+use Rattle.laws.proofs.Runs.{run-steps, run-more}
 use Rattle.faithful.specs.Promises.{andThen, after, why, Based}
 use Rattle.faithful.specs.Audit.{Alike, Followed, Audited, Audit}
 use Rattle.faithful.proofs.Demand.{demand3, demand3-run}

@@ -17,14 +17,14 @@ use Rattle.rules.specs.Instruction.{Act, outside, push, pop, compare, condition
 use Rattle.rules.specs.Checks.{most, listed}
 use Rattle.rules.specs.Convert.{convert}
 use Rattle.rules.proofs.Computes.{computes}
-use Rattle.rules.proofs.Records.{All}
-use Rattle.rules.proofs.Instructions.{FitAct, Fit, Absolute, accepted-ops, accepted-records, accepted-file}
-use Rattle.rules.proofs.Length.{converted-length}
-use Rattle.rules.proofs.Fits.{stages-fit, fit-ops}
+use Rattle.laws.proofs.Records.{All}
+use Rattle.laws.proofs.Instructions.{FitAct, Fit, Absolute, accepted-ops, accepted-records, accepted-file}
+use Rattle.laws.proofs.Length.{converted-length}
+use Rattle.laws.proofs.Fits.{stages-fit, fit-ops}
 use Rattle.faithful.specs.Promises.{Encoded, Encodings, Length, BaseAccepted}
 use Rattle.faithful.proofs.Inner.Turns.{rank, Good}
 use Rattle.faithful.proofs.Demand.{converted}
-use Rattle.rules.proofs.Refusals.{Fine, held, admitted}
+use Rattle.laws.proofs.Refusals.{Fine, held, admitted}
 use Rattle.faithful.proofs.Accepted.{Proper, accepted}
 use Rattle.faithful.proofs.Inner.Places.{clash}
 

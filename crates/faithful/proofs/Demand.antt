@@ -17,10 +17,10 @@ use Rattle.rules.specs.Stack.{fresh, top, equals}
 use Rattle.rules.specs.Step.{Mem, Acted, did, stops, perform, Out, go, halt, agree, step}
 use Rattle.rules.specs.Run.{startOf, freshMem, Run, oneMore, onward, run, runs}
 use Rattle.rules.proofs.Cases.{there-and-back}
-use Rattle.rules.proofs.Records.{ops-length}
+use Rattle.laws.proofs.Records.{ops-length}
 use Rattle.rules.proofs.Computes.{computes}
 use Rattle.faithful.specs.Promises.{andThen, after, why, Follows, Demand3, RunFollows, Demand3Run, Demand3File}
-use Rattle.rules.proofs.Refusals.{admitted}
+use Rattle.laws.proofs.Refusals.{admitted}
 use Rattle.faithful.proofs.Inner.Places.{clash, place}
 use Rattle.faithful.proofs.Inner.Simulation.{forkCost, linkCost, cost, costOf, costAt, Way, stay, on, Sim, both, lift, go-halt, at-in}
 use Rattle.faithful.proofs.Inner.Turns.{rank, Good}

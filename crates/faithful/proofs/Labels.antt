@@ -12,7 +12,7 @@ use Rattle.rules.specs.Partners.{roleOf, role, stopAt, stopFrom, endOf, armOf, 
 use Rattle.rules.specs.Labels.{unlabel, labels}
 use Rattle.rules.specs.Step.{deed, Mem, stepAt, step}
 use Rattle.rules.specs.Run.{startOf}
-use Rattle.rules.proofs.Length.{labels-length}
+use Rattle.laws.proofs.Length.{labels-length}
 use Rattle.rules.proofs.Computes.{computes}
 use Rattle.faithful.proofs.Inner.Simulation.{cost, costOf, costAt, Sim, stay, first}
 use Rattle.faithful.proofs.Inner.Turns.{rank, Calm, Good}

@@ -10,10 +10,10 @@ use Rattle.rules.specs.Instruction.{Act, Sort, conditional, loop, Op, header, s
 use Rattle.rules.specs.Numbers.{at}
 use Rattle.rules.specs.Nesting.{bracket, Body, nothing, single, looping, oneArm, twoArms}
 use Rattle.rules.specs.Partners.{Role, opens, ends, roleOf, role, stopAt, stopFrom, endOf, headerOf}
-use Rattle.rules.proofs.Partners.{backAt, back}
+use Rattle.laws.proofs.Partners.{backAt, back}
 use Rattle.faithful.specs.Items.{orElse, Stands, loop-item, one-arm, two-arms, Partnered, Belongs, by-itself, as-header, as-separator, as-end}
 use Rattle.faithful.specs.Promises.{Partners, PartnersFile}
-use Rattle.rules.proofs.Refusals.{admitted}
+use Rattle.laws.proofs.Refusals.{admitted}
 use Rattle.faithful.proofs.Grammar.{grammar}
 use Rattle.faithful.proofs.Inner.Places.{clash, over, over-suc, over-length}
 use Rattle.faithful.proofs.Inner.Reading.{From, whole, next, from-drop, drop-at, from-of, from-over, stop-body, end-of, arm-of, back-one, back-body, header-of}

@@ -16,12 +16,12 @@ use Rattle.rules.specs.Checks.{most, fieldFault}
 use Rattle.rules.specs.Table.{rowOf}
 use Rattle.rules.specs.Relative.{relativeAt, toRelative, absoluteAt, toAbsolute, farFrom, far}
 use Rattle.rules.proofs.Computes.{computes}
-use Rattle.rules.proofs.Records.{All, Small, records-length, records-back}
-use Rattle.rules.proofs.SecondLevel.{each-length}
-use Rattle.rules.proofs.Instructions.{FitAct, Fit, fit-small, accepted-back, accepted-fit, no-faults, accepted-bytes}
+use Rattle.laws.proofs.Records.{All, Small, records-length, records-back}
+use Rattle.laws.proofs.SecondLevel.{each-length}
+use Rattle.laws.proofs.Instructions.{FitAct, Fit, fit-small, accepted-back, accepted-fit, no-faults, accepted-bytes}
 use Rattle.faithful.specs.Promises.{RelativeAndBack}
 use Rattle.faithful.proofs.Inner.Places.{clash, in-or-out}
-use Rattle.rules.proofs.Refusals.{held}
+use Rattle.laws.proofs.Refusals.{held}
 use Rattle.faithful.proofs.Accepted.{Proper, accepted}
 
 -- ## A record at i

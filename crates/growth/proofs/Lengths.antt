@@ -19,9 +19,9 @@ use Rattle.rules.specs.Table.{rowOf}
 use Rattle.rules.specs.Checks.{listed}
 use Rattle.rules.specs.Instruction.{Op, jump, actOf, written, decode, encode, ops}
 use Rattle.rules.specs.Skip.{addedBy, added, adding, plainTest, skipFrom, skip, addedAll, convertedLength}
-use Rattle.rules.proofs.Records.{recordAt, ops-length, ops-drop, ops-end}
-use Rattle.rules.proofs.Instructions.{tabulated}
-use Rattle.rules.proofs.Length.{onceOf, returnOf, added-kind, ones, returns, converted-counts, added-here}
+use Rattle.laws.proofs.Records.{recordAt, ops-length, ops-drop, ops-end}
+use Rattle.laws.proofs.Instructions.{tabulated}
+use Rattle.laws.proofs.Length.{onceOf, returnOf, added-kind, ones, returns, converted-counts, added-here}
 use Rattle.growth.specs.Length.{testKind, baseLength}
 
 -- The row of the kind of the record after the first k, and what it adds.

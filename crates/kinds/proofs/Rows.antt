@@ -18,7 +18,7 @@ use Rattle.rules.specs.declared.Notation.the-variants.{Routine, Base, Relative}
 use Rattle.rules.specs.Numbers.{at}
 use Rattle.rules.specs.Table.{rows, relativeRows, rowOf}
 use Rattle.rules.specs.Checks.{listed}
-use Rattle.rules.proofs.Records.{at-zero, at-none, at-getD}
+use Rattle.laws.proofs.Records.{at-zero, at-none, at-getD}
 
 -- ## Number k of a list of rows
 

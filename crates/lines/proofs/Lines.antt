@@ -12,8 +12,8 @@ use lib.ListN.{length, take, getD}
 use lib.Seq.{take-length}
 use borrow.Rule.Slice.PartMut.{putMid}
 use Rattle.rules.specs.Record.{Rec, rec, count, records}
-use Rattle.rules.proofs.Records.{records-length}
-use Rattle.rules.proofs.SecondLevel.{groups}
+use Rattle.laws.proofs.Records.{records-length}
+use Rattle.laws.proofs.SecondLevel.{groups}
 use Rattle.records.specs.Reading.{recAt}
 use Rattle.records.proofs.Writing.{rest, rec-getD, copied}
 use Rattle.print.specs.Text.{ascii, filledSign, filled}

@@ -23,11 +23,11 @@ use Rattle.rules.specs.Instruction.{encode, ops}
 use Rattle.rules.specs.Skip.{convertedLength}
 use Rattle.rules.specs.Convert.{convert}
 use Rattle.rules.specs.Answers.{routineChecks, short, checkRoutine, filled, baseRecords, baseCount, converting, Converted}
-use Rattle.rules.proofs.Records.{All, Small, bytes-length, records-back}
-use Rattle.rules.proofs.Instructions.{Fit, accepted-ops}
-use Rattle.rules.proofs.Fits.{all-fit-small, stages-fit}
-use Rattle.rules.proofs.Length.{converted-length}
-use Rattle.rules.proofs.Refusals.{refused-then, accepted-then, accepted-count, accepted-none, Admitted, admitted}
+use Rattle.laws.proofs.Records.{All, Small, bytes-length, records-back}
+use Rattle.laws.proofs.Instructions.{Fit, accepted-ops}
+use Rattle.laws.proofs.Fits.{all-fit-small, stages-fit}
+use Rattle.laws.proofs.Length.{converted-length}
+use Rattle.laws.proofs.Refusals.{refused-then, accepted-then, accepted-count, accepted-none, Admitted, admitted}
 use Rattle.lines.specs.Text.{listing}
 use Rattle.listing.specs.Text.{textOf}
 use Rattle.listing.specs.Answers.{roomFor, listingOf, printed, Listed}

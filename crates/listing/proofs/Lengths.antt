@@ -8,8 +8,8 @@ use lib.ListN.{length, length-append}
 use lib.Dec.{eqb}
 use Rattle.rules.specs.Record.{Rec}
 use Rattle.rules.specs.Instruction.{Act, outside, push, pop, compare, conditional, loop, Op, act, test, jump, label, goto, goto2, header, separator, end, call, return, actOf, xOf, yOf, actRec, encode}
-use Rattle.rules.proofs.Records.{All}
-use Rattle.rules.proofs.Instructions.{FitAct, Fit}
+use Rattle.laws.proofs.Records.{All}
+use Rattle.laws.proofs.Instructions.{FitAct, Fit}
 use Rattle.print.specs.Text.{ascii, decimal}
 use Rattle.print.proofs.Decimal.{decimal-length}
 use Rattle.words.specs.Text.{named, action, sign, instruction}

@@ -13,7 +13,7 @@ use Rattle.rules.specs.declared.Verdict.{Verdict}
 use Rattle.rules.specs.declared.Verdict.the-variants.{Accepted, Refused}
 use Rattle.rules.specs.Refusals.{when, orElse, first, verdictOf, verdict}
 use Rattle.rules.specs.Answers.{routineChecks}
-use Rattle.rules.proofs.Refusals.{refused-then, accepted-then, accepted-count, accepted-none, none-first, when-none}
+use Rattle.laws.proofs.Refusals.{refused-then, accepted-then, accepted-count, accepted-none, none-first, when-none}
 use Rattle.listing.specs.Text.{textOf}
 use Rattle.lines.proofs.Refused.{Within, lies}
 use Rattle.listing.specs.Answers.{roomFor, listingOf, printed, Listed}

@@ -15,8 +15,8 @@ use Rattle.rules.specs.Refusals.{when, orElse, first, verdictOf, verdict}
 use Rattle.rules.specs.Checks.{most}
 use Rattle.rules.specs.Convert.{convert}
 use Rattle.rules.specs.Answers.{routineChecks, short, checkRoutine, filled, cleared, baseRecords, baseCount, converting, Converted}
-use Rattle.rules.proofs.Length.{converted-length}
-use Rattle.rules.proofs.Refusals.{refused-then, accepted-then, admitted}
+use Rattle.laws.proofs.Length.{converted-length}
+use Rattle.laws.proofs.Refusals.{refused-then, accepted-then, admitted}
 use Rattle.records.specs.Writing.{Wrote}
 use Rattle.records.proofs.Writing.{filled-by, wrote-length}
 use Rattle.growth.specs.Length.{baseLength}

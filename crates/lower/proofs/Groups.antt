@@ -15,8 +15,8 @@ use Rattle.rules.specs.Labels.{unlabel, labels}
 use Rattle.rules.specs.Calls.{chain, uncall, calls}
 use Rattle.rules.specs.Loops.{unloop, loops}
 use Rattle.rules.specs.Conditionals.{uncond, conditionals}
-use Rattle.rules.proofs.Records.{ops-length}
-use Rattle.rules.proofs.SecondLevel.{groups, groups-ext, groups-map, lowered, single, stage-groups, each-groups, renumber-zero, renumber-in}
+use Rattle.laws.proofs.Records.{ops-length}
+use Rattle.laws.proofs.SecondLevel.{groups, groups-ext, groups-map, lowered, single, stage-groups, each-groups, renumber-zero, renumber-in}
 use Rattle.records.specs.Reading.{recAt}
 use Rattle.records.proofs.Writing.{rec-getD}
 use Rattle.places.specs.declared.Stage.{Stage}

@@ -16,11 +16,11 @@ use Rattle.rules.specs.Instruction.{Op, encode, ops, file}
 use Rattle.rules.specs.Checks.{most}
 use Rattle.rules.specs.Skip.{convertedLength}
 use Rattle.rules.specs.Answers.{checkRoutine}
-use Rattle.rules.proofs.Records.{All, records-back, ops-length}
-use Rattle.rules.proofs.Instructions.{Fit, accepted-ops, accepted-records}
-use Rattle.rules.proofs.Length.{labels-length, labels-room}
-use Rattle.rules.proofs.Fits.{Stages, stages-fit, all-fit-small, fit-ops}
-use Rattle.rules.proofs.Refusals.{admitted}
+use Rattle.laws.proofs.Records.{All, records-back, ops-length}
+use Rattle.laws.proofs.Instructions.{Fit, accepted-ops, accepted-records}
+use Rattle.laws.proofs.Length.{labels-length, labels-room}
+use Rattle.laws.proofs.Fits.{Stages, stages-fit, all-fit-small, fit-ops}
+use Rattle.laws.proofs.Refusals.{admitted}
 use Rattle.records.specs.Writing.{Wrote}
 use Rattle.records.proofs.Writing.{wrote-as, wrote-length}
 use Rattle.places.specs.declared.Stage.{Stage}

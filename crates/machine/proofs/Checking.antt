@@ -24,9 +24,9 @@ use Rattle.rules.specs.Refusals.{when, whenAt, orElse, first, verdictOf, verdic
 use Rattle.rules.specs.Checks.{most, inRow, stackAction, hasStack, fieldFault, faultFrom}
 use Rattle.rules.specs.Run.{startOf, freshMem, run, runs}
 use Rattle.rules.specs.Answers.{Called, checkRecords, checkRoutine, badReply, sound, unless, turnedAway, noState, running, ran, stepping, memAt}
-use Rattle.rules.proofs.Records.{at-none, all-getD, records-length, records-getD, ops-length}
-use Rattle.rules.proofs.Instructions.{no-faults}
-use Rattle.rules.proofs.Refusals.{first-append, when-none, held, admitted}
+use Rattle.laws.proofs.Records.{at-none, all-getD, records-length, records-getD, ops-length}
+use Rattle.laws.proofs.Instructions.{no-faults}
+use Rattle.laws.proofs.Refusals.{first-append, when-none, held, admitted}
 use Rattle.records.specs.Reading.{recAt}
 use Rattle.records.proofs.Reading.{rec-at}
 use Rattle.stack.proofs.Moves.{named, names-leb, move-in}

@@ -14,7 +14,7 @@ use Rattle.rules.specs.Instruction.{outside, push, pop, compare, loop, actOf, O
 use Rattle.rules.specs.Partners.{endOf, armOf}
 use Rattle.rules.specs.Stack.{popped, top}
 use Rattle.rules.specs.Step.{Mem, Out, go, halt, withStack, Acted, did, stops, perform, agree, branch, leaving, does, deed, ask, stepAt, step}
-use Rattle.rules.proofs.Records.{recordAt, ops-length, ops-at}
+use Rattle.laws.proofs.Records.{recordAt, ops-length, ops-at}
 use Rattle.records.specs.Reading.{recAt}
 use Rattle.records.proofs.Reading.{rec-at}
 use Rattle.stack.proofs.Moves.{move-named}

@@ -19,7 +19,7 @@ use Rattle.rules.specs.Stack.{stack}
 use Rattle.rules.specs.Step.{Mem, go, halt, step}
 use Rattle.rules.specs.Run.{Run, stopped, run}
 use Rattle.rules.specs.Answers.{Called, ran}
-use Rattle.rules.proofs.Runs.{plus, plus-zero, run-zero, run-at-zero, plus-go, plus-halt}
+use Rattle.laws.proofs.Runs.{plus, plus-zero, run-zero, run-at-zero, plus-go, plus-halt}
 use Rattle.records.specs.Reading.{recAt}
 use Rattle.stack.proofs.Moves.{named, move-named, move-out}
 use Rattle.deeds.specs.declared.Deed.{Deed}

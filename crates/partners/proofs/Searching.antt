@@ -15,8 +15,8 @@ use Rattle.rules.specs.Record.{Rec, count, records}
 use Rattle.rules.specs.Instruction.{Sort, conditional, loop, Op, jump, decode, ops}
 use Rattle.rules.specs.Numbers.{at}
 use Rattle.rules.specs.Partners.{Role, opens, parts, ends, other, role, stopAt, stopFrom, endOf, headerUpTo, headerOf}
-use Rattle.rules.proofs.Records.{recordAt, at-getD, ops-length, ops-none, ops-drop, ops-end}
-use Rattle.rules.proofs.Partners.{roleOfKind, role-kind, ops-role, stop-here, stop-out, roleAt, backAt, back, back-here, header-back}
+use Rattle.laws.proofs.Records.{recordAt, at-getD, ops-length, ops-none, ops-drop, ops-end}
+use Rattle.laws.proofs.Partners.{roleOfKind, role-kind, ops-role, stop-here, stop-out, roleAt, backAt, back, back-here, header-back}
 use Rattle.records.specs.Reading.{orNothing, recAt}
 use Rattle.partners.specs.declared.Role as said
 use Rattle.partners.specs.declared.Role.the-variants.{Opens, Parts, Ends, Other}

@@ -13,8 +13,8 @@ use Rattle.rules.specs.Record.{Rec, count}
 use Rattle.rules.specs.Instruction.{Op, jump, actOf, written, decode, encode, ops}
 use Rattle.rules.specs.Numbers.{given}
 use Rattle.rules.specs.Labels.{isLabel, labelFrom, labelAfter, target, target2}
-use Rattle.rules.proofs.Records.{recordAt, ops-drop, ops-end}
-use Rattle.rules.proofs.Instructions.{tabulated}
+use Rattle.laws.proofs.Records.{recordAt, ops-drop, ops-end}
+use Rattle.laws.proofs.Instructions.{tabulated}
 use Rattle.records.specs.Reading.{recAt}
 use Rattle.records.proofs.Reading.{rec-at}
 

@@ -10,7 +10,7 @@ ghost use Prim.Native.Nat.{_≤_};
 ghost use Rattle.rules.specs.Record.{count};
 ghost use Rattle.rules.specs.Instruction.{conditional, loop, ops};
 ghost use Rattle.rules.specs.Partners.{endOf, armOf, headerOf};
-ghost use Rattle.rules.proofs.Partners.{roleOfKind, back};
+ghost use Rattle.laws.proofs.Partners.{roleOfKind, back};
 ghost use Rattle.partners.specs.Searching.{sortOf, roleSaid, ahead};
 
 // The two sorts of item that hold bodies.

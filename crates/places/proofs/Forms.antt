@@ -8,7 +8,7 @@ use mathlib.Core.List.{List, _∷_, map}
 use lib.ListN.{getD, List·getD-map}
 use Rattle.rules.specs.Record.{Rec}
 use Rattle.rules.specs.Instruction.{Op, jump, actOf, written, decode}
-use Rattle.rules.proofs.Instructions.{tabulate, tabulated}
+use Rattle.laws.proofs.Instructions.{tabulate, tabulated}
 
 abbrev pub forms : Rec → List Op
 forms r = jump 0 ∷ written (actOf (r .x) (r .y)) (r .x) (r .y)

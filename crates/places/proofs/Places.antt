@@ -21,9 +21,9 @@ use Rattle.rules.specs.Labels.{unlabel}
 use Rattle.rules.specs.Calls.{chain, uncall}
 use Rattle.rules.specs.Loops.{unloop}
 use Rattle.rules.specs.Conditionals.{uncond}
-use Rattle.rules.proofs.Records.{ops-length}
-use Rattle.rules.proofs.Instructions.{tabulate}
-use Rattle.rules.proofs.SecondLevel.{groups, each-length, groups-next, lowered, seconds-groups, renumber-zero, renumber-out}
+use Rattle.laws.proofs.Records.{ops-length}
+use Rattle.laws.proofs.Instructions.{tabulate}
+use Rattle.laws.proofs.SecondLevel.{groups, each-length, groups-next, lowered, seconds-groups, renumber-zero, renumber-out}
 use Rattle.records.specs.Reading.{recAt}
 use Rattle.records.proofs.Writing.{rec-getD, copied}
 use Rattle.places.specs.declared.Stage.{Stage}

@@ -14,7 +14,7 @@ use lib.Dec.{leb}
 use borrow.Rule.Slice.PartMut.{putMid}
 use borrow.Author.Tests.{leb-true, leb-false}
 use Rattle.rules.specs.Record.{Rec, bytesOf, count}
-use Rattle.rules.proofs.Records.{bytes-length}
+use Rattle.laws.proofs.Records.{bytes-length}
 use Rattle.records.specs.Writing.{Put, Wrote}
 use Rattle.records.proofs.Writing.{rest, put, more}
 use Rattle.places.specs.Writing.{Fitted}

@@ -6,7 +6,7 @@ use native.Mathlib.Omega.{arith}
 use lib.ListN.{length, drop, length-take, length-drop}
 use borrow.Rule.Slice.PartMut.{putMid}
 use Rattle.rules.specs.Record.{Rec, bytesOf}
-use Rattle.rules.proofs.Records.{bytes-length}
+use Rattle.laws.proofs.Records.{bytes-length}
 use Rattle.records.specs.Writing.{Put, Wrote}
 use Rattle.records.proofs.Writing.{rest, one, more}
 use Rattle.text.specs.declared.TextVerdict.{TextVerdict}

@@ -11,7 +11,7 @@ use Rattle.rules.specs.declared.Refusal.the-variants.{Long, Room}
 use Rattle.rules.specs.Checks.{most}
 use Rattle.rules.specs.Record.{Rec, bytesOf}
 use Rattle.rules.specs.Answers.{short}
-use Rattle.rules.proofs.Records.{bytes-length}
+use Rattle.laws.proofs.Records.{bytes-length}
 use Rattle.text.specs.declared.TextRefusal.{TextRefusal}
 use Rattle.text.specs.declared.TextRefusal.the-variants.{Name, Earlier}
 use Rattle.text.specs.declared.TextVerdict.{TextVerdict}

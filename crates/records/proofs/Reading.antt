@@ -4,7 +4,7 @@ use Prim.Native.Nat.{ℕ, zero, suc, _-_, _≤_, _<_}
 use native.Mathlib.Omega.{arith}
 use mathlib.Core.List.{List}
 use Rattle.rules.specs.Record.{rec, count}
-use Rattle.rules.proofs.Records.{at-zero, recordAt, records-at, records-none}
+use Rattle.laws.proofs.Records.{at-zero, recordAt, records-at, records-none}
 use Rattle.rules.specs.Record.{records}
 use Rattle.records.specs.Reading.{orNothing, recAt}
 

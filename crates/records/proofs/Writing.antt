@@ -22,8 +22,8 @@ use Rattle.rules.specs.declared.Verdict.the-variants.{Accepted}
 use Rattle.rules.specs.Answers.{filled}
 use Rattle.rules.specs.Record.{Rec, rec, recordBytes, bytesOf, count, records}
 use Rattle.rules.specs.Numbers.{each}
-use Rattle.rules.proofs.Records.{bytes-append, bytes-length, records-length, records-getD, records-at}
-use Rattle.rules.proofs.SecondLevel.{groups, groups-ext, groups-room, each-groups}
+use Rattle.laws.proofs.Records.{bytes-append, bytes-length, records-length, records-getD, records-at}
+use Rattle.laws.proofs.SecondLevel.{groups, groups-ext, groups-room, each-groups}
 use Rattle.records.specs.Reading.{orNothing, recAt}
 use Rattle.records.specs.Writing.{Put, Wrote}
 

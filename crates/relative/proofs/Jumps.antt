@@ -10,7 +10,7 @@ use lib.ListN.{drop, drop-of-length-le}
 use borrow.Author.Tests.{eq-eqb, ne-eqb, le-leb, lt-leb, lt-ltb, le-ltb, eqb-false, ltb-true, ltb-false}
 use Rattle.rules.specs.Record.{Rec, rec, count, records}
 use Rattle.rules.specs.Relative.{relativeJump, relativeAt, absoluteAt, farFrom}
-use Rattle.rules.proofs.Records.{records-length}
+use Rattle.laws.proofs.Records.{records-length}
 use Rattle.records.specs.Reading.{recAt}
 use Rattle.records.proofs.Writing.{copied, rec-drop}
 

@@ -14,7 +14,7 @@ use Rattle.rules.specs.Refusals.{when, whenAt, orElse, first, verdictOf, verdic
 use Rattle.rules.specs.Checks.{recordChecks}
 use Rattle.rules.specs.Relative.{far}
 use Rattle.rules.specs.Answers.{short, checkRecords, filled, relating, absoluting, Translated}
-use Rattle.rules.proofs.Refusals.{refused-then, accepted-then, held}
+use Rattle.laws.proofs.Refusals.{refused-then, accepted-then, held}
 use Rattle.records.specs.Writing.{Wrote}
 use Rattle.records.proofs.Writing.{filled-by}
 

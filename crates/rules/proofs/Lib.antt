@@ -1,12 +1,4 @@
 pub mod Computes
-pub mod Records
-pub mod Refusals
-pub mod Instructions
-pub mod Partners
-pub mod SecondLevel
-pub mod Length
-pub mod Fits
-pub mod Runs
 pub mod Cases
 pub mod Beside
 pub mod Table

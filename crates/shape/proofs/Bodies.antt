@@ -18,8 +18,8 @@ use Rattle.rules.specs.Record.{count}
 use Rattle.rules.specs.Instruction.{Sort, conditional, loop, jump, ops}
 use Rattle.rules.specs.Nesting.{Bracket, opener, middle, closer, alone, bracket, Item, item, parted, closed, read, lowest, goOn, scan, nesting}
 use Rattle.rules.specs.Partners.{Role, opens, parts, ends, other, roleOf, role}
-use Rattle.rules.proofs.Records.{ops-getD, ops-drop, ops-end}
-use Rattle.rules.proofs.Partners.{roleOfKind, ops-role}
+use Rattle.laws.proofs.Records.{ops-getD, ops-drop, ops-end}
+use Rattle.laws.proofs.Partners.{roleOfKind, ops-role}
 use Rattle.partners.specs.declared.Sort as said
 use Rattle.partners.specs.declared.Sort.the-variants.{Conditional, Loop}
 use Rattle.shape.specs.declared.nesting.Start.{Start}

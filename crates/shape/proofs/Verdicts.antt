@@ -18,7 +18,7 @@ use Rattle.rules.specs.Checks.{most, recordChecks}
 use Rattle.rules.specs.Nesting.{nesting}
 use Rattle.rules.specs.Skip.{skip, convertedLength, grown}
 use Rattle.rules.specs.Answers.{routineChecks, checkRecords, checkRoutine}
-use Rattle.rules.proofs.Refusals.{refused-then, accepted-then, accepted-count, held}
+use Rattle.laws.proofs.Refusals.{refused-then, accepted-then, accepted-count, held}
 use Rattle.growth.specs.Length.{baseLength}
 use Rattle.growth.proofs.Lengths.{base-is}
 

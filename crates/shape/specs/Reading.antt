@@ -8,7 +8,7 @@ use Rattle.rules.specs.Instruction.{jump, ops}
 use Rattle.rules.specs.Nesting.{Bracket, opener, middle, closer, alone, bracket, Item, item, lowest, scan}
 use Rattle.rules.specs.Partners as partners
 use Rattle.rules.specs.Partners.{opens, parts, ends, other}
-use Rattle.rules.proofs.Partners.{roleOfKind}
+use Rattle.laws.proofs.Partners.{roleOfKind}
 use Rattle.partners.specs.declared.Sort.the-variants.{Conditional, Loop}
 use Rattle.shape.specs.declared.nesting.Start.{Start}
 use Rattle.shape.specs.declared.nesting.Start.the-variants as start

@@ -8,7 +8,7 @@ ghost use Prim.Native.Nat.{_≤_, _<_};
 ghost use Rattle.rules.specs.Record.{count};
 ghost use Rattle.rules.specs.Instruction.{ops, conditional, loop};
 ghost use Rattle.rules.specs.Nesting as rule;
-ghost use Rattle.rules.proofs.Partners.{roleOfKind};
+ghost use Rattle.laws.proofs.Partners.{roleOfKind};
 ghost use Rattle.partners.specs.Searching.{sortOf};
 ghost use Rattle.shape.specs.Reading.{startOf, behindOf, BodyRead, ItemRead};
 

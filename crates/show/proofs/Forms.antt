@@ -14,7 +14,7 @@ use Rattle.rules.specs.declared.Refusal.{Refusal}
 use Rattle.rules.specs.declared.Verdict.the-variants.{Refused}
 use Rattle.rules.specs.Refusals.{told}
 use Rattle.rules.specs.Record.{rec}
-use Rattle.rules.proofs.Instructions.{tabulate}
+use Rattle.laws.proofs.Instructions.{tabulate}
 use Rattle.print.specs.Text.{ascii, filledSign, filled}
 use Rattle.words.specs.Text.{instruction}
 use Rattle.show.specs.Text.{forms, rows, written, answer}

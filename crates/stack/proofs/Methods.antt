@@ -10,7 +10,7 @@ use borrow.Author.Tests.{le-leb, lt-leb, leb-false, eq-eqb, ne-eqb}
 use Rattle.rules.specs.declared.Stack.{Stack}
 use Rattle.rules.specs.Numbers.{names, at}
 use Rattle.rules.specs.Stack.{stack, full, pushed, without, popped, top, nonempty, equals}
-use Rattle.rules.proofs.Records.{at-zero, at-none, at-getD}
+use Rattle.laws.proofs.Records.{at-zero, at-none, at-getD}
 use Rattle.stack.specs.declared.StackReply.the-variants.{Yes, No, Full}
 use Rattle.stack.specs.Methods.{orZero, said, handed, pushing, popping, comparing}
 use Rattle.stack.proofs.Moves.{named}

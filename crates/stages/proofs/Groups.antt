@@ -10,7 +10,7 @@ use Rattle.rules.specs.Numbers.{past}
 use Rattle.rules.specs.Instruction.{conditional, loop, ops}
 use Rattle.rules.specs.Labels.{target, target2}
 use Rattle.rules.specs.Partners.{endOf, armOf, headerOf}
-use Rattle.rules.proofs.SecondLevel.{groups}
+use Rattle.laws.proofs.SecondLevel.{groups}
 use Rattle.records.proofs.Writing.{copied}
 use Rattle.places.specs.declared.Stage.{Stage}
 use Rattle.places.specs.declared.Stage.the-variants.{Labels, Calls, Loops, Conditionals}

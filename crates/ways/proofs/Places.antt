@@ -12,7 +12,7 @@ use Rattle.rules.specs.Record.{rec, count}
 use Rattle.rules.specs.Instruction.{Sort, conditional, loop, Op, ops}
 use Rattle.rules.specs.Numbers.{given, past}
 use Rattle.rules.specs.Partners.{Role, opens, parts, ends, other, role, stopAt, stopFrom, endOf, armOf}
-use Rattle.rules.proofs.Records.{ops-length}
+use Rattle.laws.proofs.Records.{ops-length}
 use Rattle.records.specs.Reading.{recAt}
 use Rattle.records.proofs.Reading.{rec-zero, rec-none}
 use Rattle.ways.specs.Places.{places, placeFor}

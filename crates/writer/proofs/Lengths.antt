@@ -7,7 +7,7 @@ use native.Mathlib.Omega.{arith}
 use lib.Dec.{eqb, leb, leb→le}
 use lib.ListN.{length, length-append}
 use Rattle.rules.specs.Record.{Rec}
-use Rattle.rules.proofs.Records.{All, Small}
+use Rattle.laws.proofs.Records.{All, Small}
 use Rattle.text.specs.declared.Sort.the-variants.{Named}
 use Rattle.text.specs.Bytes.{ascii}
 use Rattle.text.specs.Forms.{a, k, s, t, forms, signsOf}

@@ -13,7 +13,7 @@ use lib.Dec.{eqb}
 use lib.ListN.{length, drop, drop-of-length-le}
 use borrow.Rule.Slice.PartMut.{putMid}
 use Rattle.rules.specs.Record.{Rec, rec, count, records}
-use Rattle.rules.proofs.Records.{records-length}
+use Rattle.laws.proofs.Records.{records-length}
 use Rattle.text.specs.Bytes.{ascii}
 use Rattle.text.specs.Forms.{a, letterOf}
 use Rattle.text.specs.Names.{proper}

@@ -22,10 +22,10 @@ use Rattle.rules.specs.Refusals.{first, verdictOf}
 use Rattle.rules.specs.Refusals as paper
 use Rattle.rules.specs.Checks.{most, recordChecks}
 use Rattle.rules.specs.Answers.{checkRecords}
-use Rattle.rules.proofs.Records.{All, Small, records-length}
-use Rattle.rules.proofs.Instructions.{accepted-ops, accepted-records}
-use Rattle.rules.proofs.Fits.{all-fit-small}
-use Rattle.rules.proofs.Refusals.{accepted-none, held}
+use Rattle.laws.proofs.Records.{All, Small, records-length}
+use Rattle.laws.proofs.Instructions.{accepted-ops, accepted-records}
+use Rattle.laws.proofs.Fits.{all-fit-small}
+use Rattle.laws.proofs.Refusals.{accepted-none, held}
 use Rattle.text.specs.declared.TextRefusal.{TextRefusal}
 use Rattle.text.specs.declared.TextRefusal.the-variants.{Name, Earlier}
 use Rattle.text.specs.declared.TextVerdict.{TextVerdict}

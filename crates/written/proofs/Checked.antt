@@ -10,8 +10,8 @@ use Rattle.rules.specs.Table.{rowOf}
 use Rattle.rules.specs.Refusals.{first}
 use Rattle.rules.specs.Checks.{most, listed, inRow, fieldFault, recordChecks}
 use Rattle.rules.specs.Answers.{checkRecords}
-use Rattle.rules.proofs.Records.{All, Small}
-use Rattle.rules.proofs.Refusals.{accepted-none}
+use Rattle.laws.proofs.Records.{All, Small}
+use Rattle.laws.proofs.Refusals.{accepted-none}
 use Rattle.faithful.proofs.Accepted.{Proper, accepted}
 use Rattle.text.specs.Names.{same}
 use Rattle.written.proofs.Numbered.{given-most}

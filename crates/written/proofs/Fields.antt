@@ -14,8 +14,8 @@ use Rattle.rules.specs.Numbers.{at}
 use Rattle.rules.specs.Table.{rows, rowOf}
 use Rattle.rules.specs.Refusals.{when, orElse}
 use Rattle.rules.specs.Checks.{kindFault, listed, inRow, hasStack, fieldFault, fault, faultFrom}
-use Rattle.rules.proofs.Records.{All, at-none}
-use Rattle.rules.proofs.Refusals.{when-none}
+use Rattle.laws.proofs.Records.{All, at-none}
+use Rattle.laws.proofs.Refusals.{when-none}
 use Rattle.text.specs.Forms.{a, k, s, t, signsOf, letterIn, letterOf}
 use Rattle.text.specs.Names.{same}
 use Rattle.text.proofs.Tests.{by-test, never}

@@ -10,7 +10,7 @@ use Rattle.rules.specs.Record.{Rec, bytesOf, records}
 use Rattle.rules.specs.Refusals.{first}
 use Rattle.rules.specs.Checks.{most, recordChecks}
 use Rattle.rules.specs.Answers.{short}
-use Rattle.rules.proofs.Records.{records-back}
+use Rattle.laws.proofs.Records.{records-back}
 use Rattle.text.specs.declared.TextRefusal.the-variants.{Name, Earlier}
 use Rattle.text.specs.declared.TextVerdict.the-variants.{Done, Refused}
 use Rattle.text.specs.Names.{entriesOf, entries, listFault}

@@ -9,8 +9,8 @@ use Rattle.rules.specs.Words.{ℕ, zero, suc, _+_, _-_, true, List, [], _∷_, 
 use Rattle.rules.specs.declared.Notation.the-variants.{Routine}
 use Rattle.rules.specs.Record.{Rec, rec, count, records}
 use Rattle.rules.specs.Table.{rowOf}
-use Rattle.rules.proofs.Records as paper
-use Rattle.rules.proofs.Refusals.{fine}
+use Rattle.laws.proofs.Records as paper
+use Rattle.laws.proofs.Refusals.{fine}
 use Rattle.text.specs.Forms.{a, k, s, t, signsOf, letterOf}
 use Rattle.text.specs.Names.{same, placeFrom, placeOf, padded, actionOf, entries, entry, nameOf, proper}
 use Rattle.text.specs.Writing.{namelessFrom}

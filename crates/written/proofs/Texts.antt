@@ -10,8 +10,8 @@ use Rattle.rules.specs.declared.Notation.the-variants.{Routine}
 use Rattle.rules.specs.Record.{Rec, count, records}
 use Rattle.rules.specs.Refusals.{first}
 use Rattle.rules.specs.Checks.{recordChecks}
-use Rattle.rules.proofs.Records as paper
-use Rattle.rules.proofs.Refusals.{fine}
+use Rattle.laws.proofs.Records as paper
+use Rattle.laws.proofs.Refusals.{fine}
 use Rattle.text.specs.declared.Sort.the-variants.{Blank}
 use Rattle.text.specs.declared.TextRefusal.the-variants.{Name}
 use Rattle.text.specs.declared.TextVerdict.{TextVerdict}

@@ -11,7 +11,7 @@ use Rattle.rules.specs.Record.{count}
 use Rattle.rules.specs.Refusals.{when, orElse, first, verdictOf, verdict}
 use Rattle.rules.specs.Checks.{ragged, most, long, faultFrom, recordChecks}
 use Rattle.rules.specs.Answers.{checkRecords}
-use Rattle.rules.proofs.Refusals.{or-none}
+use Rattle.laws.proofs.Refusals.{or-none}
 use Rattle.checks.proofs.check_records.Statement.{statement}
 use Rattle.checks.proofs.check_records.Tie as tie
 

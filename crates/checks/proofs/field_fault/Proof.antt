@@ -10,7 +10,7 @@ use Rattle.rules.specs.declared.Notation.{Notation}
 use Rattle.rules.specs.declared.Row.{Row}
 use Rattle.rules.specs.Record.{rec, recordOf}
 use Rattle.rules.specs.Checks.{inRow, stackAction, hasStack}
-use Rattle.rules.proofs.Records.{record-drop}
+use Rattle.laws.proofs.Records.{record-drop}
 use Rattle.checks.specs.Ranges.{outside}
 use Rattle.checks.proofs.field_fault.Statement.{statement}
 use Rattle.checks.proofs.field_fault.Tie as tie

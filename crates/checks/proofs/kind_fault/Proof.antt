@@ -8,7 +8,7 @@ use Rattle.rules.specs.declared.Notation.{Notation}
 use Rattle.rules.specs.Record.{Rec, spareZero}
 use Rattle.rules.specs.Table.{rowOf}
 use Rattle.rules.specs.Checks.{listed, kindFault}
-use Rattle.rules.proofs.Records.{record-drop}
+use Rattle.laws.proofs.Records.{record-drop}
 use Rattle.checks.proofs.kind_fault.Statement.{statement}
 use Rattle.checks.proofs.kind_fault.Tie as tie
 

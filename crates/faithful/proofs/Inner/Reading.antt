@@ -10,8 +10,8 @@ use Rattle.rules.specs.Instruction.{Act, Sort, conditional, loop, Op, header, s
 use Rattle.rules.specs.Numbers.{at, past}
 use Rattle.rules.specs.Nesting.{alone, bracket, Body, nothing, single, looping, oneArm, twoArms}
 use Rattle.rules.specs.Partners.{Role, opens, parts, ends, other, roleOf, role, stopAt, stopFrom, endOf, armOf, opening, isHeader, headerUpTo, headerOf}
-use Rattle.rules.proofs.Records.{at-getD}
-use Rattle.rules.proofs.Partners.{backAt, roleAt, back, header-back}
+use Rattle.laws.proofs.Records.{at-getD}
+use Rattle.laws.proofs.Partners.{backAt, roleAt, back, header-back}
 use Rattle.faithful.proofs.Inner.Places.{clash, over, over-append}
 
 -- ## What stands behind the first k records

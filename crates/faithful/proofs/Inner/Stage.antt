@@ -16,9 +16,9 @@ use Rattle.rules.specs.SecondLevel.{Group, members, renumber, sent, laid, remov
 use Rattle.rules.specs.Stack.{top}
 use Rattle.rules.specs.Step.{deed, Mem, Out, go, halt, leaving, does}
 use Rattle.rules.specs.Run.{startOf}
-use Rattle.rules.proofs.Records.{at-getD, at-none}
-use Rattle.rules.proofs.SecondLevel.{each-length}
-use Rattle.rules.proofs.Partners.{backAt, back}
+use Rattle.laws.proofs.Records.{at-getD, at-none}
+use Rattle.laws.proofs.SecondLevel.{each-length}
+use Rattle.laws.proofs.Partners.{backAt, back}
 use Rattle.rules.proofs.Computes.{computes}
 use Rattle.faithful.proofs.Inner.Places.{clash, in-or-out, over, over-suc, ahead, ahead-out, place, move-out, move-place, move-renumber}
 use Rattle.faithful.proofs.Inner.Simulation.{Sim, simulated, Meets, cost, linkCost, asked, leapt, jumped, opened, called}

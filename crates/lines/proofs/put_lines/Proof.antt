@@ -5,7 +5,7 @@ use native.Mathlib.Omega.{arith}
 use borrow.Author.Needs.{needs}
 use lib.ListN.{length}
 use Rattle.rules.specs.Record.{count}
-use Rattle.rules.proofs.SecondLevel.{groups}
+use Rattle.laws.proofs.SecondLevel.{groups}
 use Rattle.print.specs.Printing.{Printed}
 use Rattle.print.proofs.Printing.{print-none, print-more, print-sizes}
 use Rattle.lines.proofs.Lines.{lineOf, same-line, turn, finish}

@@ -6,7 +6,7 @@ use lib.ListN.{replicate}
 use Rattle.rules.specs.declared.Verdict.the-variants.{Accepted}
 use Rattle.rules.specs.Record.{count}
 use Rattle.rules.specs.Answers.{checkRoutine, baseCount}
-use Rattle.rules.proofs.Refusals.{admitted}
+use Rattle.laws.proofs.Refusals.{admitted}
 use Rattle.lower.proofs.Lowering.{ready}
 use Rattle.lower.proofs.Converting.{turned-away, converted, refused, counted, output-short, working-short, enough}
 use Rattle.lower.proofs.convert.Statement.{statement}

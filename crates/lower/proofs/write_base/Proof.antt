@@ -8,7 +8,7 @@ use Rattle.rules.specs.Calls.{calls}
 use Rattle.rules.specs.Loops.{loops}
 use Rattle.rules.specs.Convert.{convert}
 use Rattle.rules.specs.Answers.{baseRecords, baseCount}
-use Rattle.rules.proofs.Length.{converted-length, labels-room, calls-room, loops-room}
+use Rattle.laws.proofs.Length.{converted-length, labels-room, calls-room, loops-room}
 use Rattle.places.specs.declared.Stage.the-variants.{Labels, Calls, Loops, Conditionals}
 use Rattle.places.proofs.Writing.{fit-sizes}
 use Rattle.lower.proofs.Lowering.{part-length, eights, stage, next, over, ready}

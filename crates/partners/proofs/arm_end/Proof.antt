@@ -1,6 +1,6 @@
 use mathlib.Core.Path.{_∙_, sym}
 use borrow.Author.Needs.{needs}
-use Rattle.rules.proofs.Partners.{armOf-is}
+use Rattle.laws.proofs.Partners.{armOf-is}
 use Rattle.partners.proofs.arm_end.Statement.{statement}
 use Rattle.partners.proofs.arm_end.Tie as tie
 

@@ -1,6 +1,6 @@
 use borrow.Author.Needs.{needs}
 use borrow.Author.Tests.{ne-eqb}
-use Rattle.rules.proofs.Partners.{roleOfKind}
+use Rattle.laws.proofs.Partners.{roleOfKind}
 use Rattle.partners.specs.Searching.{roleSaid}
 use Rattle.partners.proofs.role_of.Statement.{statement}
 use Rattle.partners.proofs.role_of.Tie as tie

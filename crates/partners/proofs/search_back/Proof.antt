@@ -4,7 +4,7 @@ use Prim.Native.Nat.{_+_, _-_, _≤_}
 use native.Mathlib.Omega.{arith}
 use borrow.Author.Needs.{needs}
 use Rattle.rules.specs.Instruction.{ops}
-use Rattle.rules.proofs.Partners.{back}
+use Rattle.laws.proofs.Partners.{back}
 use Rattle.partners.specs.Searching.{sortOf}
 use Rattle.partners.proofs.Searching.{told, back-start, back-passed, back-part, back-end, back-found, back-inside}
 use Rattle.partners.proofs.search_back.Statement.{statement}

@@ -6,9 +6,9 @@ use Rattle.rules.specs.declared.Verdict.the-variants.{Accepted}
 use Rattle.rules.specs.Record.{records}
 use Rattle.rules.specs.Relative.{absoluteAt, toAbsolute, far}
 use Rattle.rules.specs.Answers.{checkRecords}
-use Rattle.rules.proofs.Records.{records-length}
-use Rattle.rules.proofs.SecondLevel.{each-length}
-use Rattle.rules.proofs.Refusals.{held}
+use Rattle.laws.proofs.Records.{records-length}
+use Rattle.laws.proofs.SecondLevel.{each-length}
+use Rattle.laws.proofs.Refusals.{held}
 use Rattle.relative.proofs.Translations.{turned-away, translated, absoluting-refused, absoluting-far, absoluting-short, absoluting-enough}
 use Rattle.relative.proofs.to_absolute.Statement.{statement}
 use Rattle.relative.proofs.to_absolute.Tie as tie

@@ -7,9 +7,9 @@ use Rattle.rules.specs.Record.{records}
 use Rattle.rules.specs.Checks.{most}
 use Rattle.rules.specs.Relative.{relativeAt, toRelative}
 use Rattle.rules.specs.Answers.{checkRecords}
-use Rattle.rules.proofs.Records.{records-length}
-use Rattle.rules.proofs.SecondLevel.{each-length}
-use Rattle.rules.proofs.Refusals.{held}
+use Rattle.laws.proofs.Records.{records-length}
+use Rattle.laws.proofs.SecondLevel.{each-length}
+use Rattle.laws.proofs.Refusals.{held}
 use Rattle.relative.proofs.Translations.{turned-away, translated, relating-refused, relating-short, relating-enough}
 use Rattle.relative.proofs.to_relative.Statement.{statement}
 use Rattle.relative.proofs.to_relative.Tie as tie

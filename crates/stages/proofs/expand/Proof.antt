@@ -5,7 +5,7 @@ use native.Mathlib.Numerals.{add-one}
 use native.Mathlib.Omega.{arith}
 use borrow.Author.Needs.{needs}
 use Rattle.rules.specs.Record.{count}
-use Rattle.rules.proofs.SecondLevel.{groups}
+use Rattle.laws.proofs.SecondLevel.{groups}
 use Rattle.places.specs.Writing.{Fitted}
 use Rattle.places.proofs.Writing.{fit-sizes, fit-none, fit-more, fit-as}
 use Rattle.stages.specs.Groups.{group}

@@ -2,8 +2,8 @@ use mathlib.Core.Path.{refl}
 use native.Mathlib.Omega.{arith}
 use borrow.Author.Needs.{needs}
 use Rattle.rules.specs.Instruction.{ops}
-use Rattle.rules.proofs.Records.{ops-length}
-use Rattle.rules.proofs.Fits.{target-in, target2-in}
+use Rattle.laws.proofs.Records.{ops-length}
+use Rattle.laws.proofs.Fits.{target-in, target2-in}
 use Rattle.places.proofs.Writing.{fit-one, fit-as}
 use Rattle.stages.proofs.Groups.{label-here, goto-here, goto2-here, labels-keep}
 use Rattle.stages.proofs.labels.write_group.Statement.{statement}

@@ -15,13 +15,13 @@ use lib.ListN.{length, drop, getD, drop-of-length-le, List·getD-map}
 use lib.Seq.{drop-cons}
 use lib.Dec.{eqb}
 use borrow.Author.Tests.{eq-eqb, ne-eqb}
 use Rattle.rules.specs.Record.{Rec, count}
 use Rattle.rules.specs.Instruction.{Sort, conditional, loop, Op, jump, actOf, written, decode, ops}
 use Rattle.rules.specs.Numbers.{at}
 use Rattle.rules.specs.Nesting.{bracket}
 use Rattle.rules.specs.Partners.{Role, opens, parts, ends, other, roleOf, role, stopAt, stopFrom, endOf, armOf, opening, isHeader, headerUpTo, headerOf}
-use Rattle.rules.proofs.Records.{at-getD, recordAt, ops-getD}
-use Rattle.rules.proofs.Instructions.{tabulate, tabulated}
+use Rattle.laws.proofs.Records.{at-getD, recordAt, ops-getD}
+use Rattle.laws.proofs.Instructions.{tabulate, tabulated}
 
 -- ## The role of a record, by its kind
 

@@ -19,16 +19,16 @@ use lib.ListN.{length, take, drop, getD, getElem?, length-drop, List·getD-map}
 use lib.Seq.{drop-cons, drop-drop}
 use lib.Dec.{eqb, leb}
 use borrow.Author.Tests.{leb-true, eqb-true, not-false, le-leb, lt-leb, ne-eqb}
 use Rattle.rules.specs.declared.Row.{Row}
 use Rattle.rules.specs.Record.{Rec, rec, recordBytes, bytesOf, count, recordOf, spareZero, recordsOf, records}
 use Rattle.rules.specs.declared.Notation.{Notation}
 use Rattle.rules.specs.declared.Notation.the-variants.{Routine, Base, Relative}
 use Rattle.rules.specs.Table.{rows, rowOf}
 use Rattle.rules.specs.Numbers.{at, names}
 use Rattle.rules.specs.Instruction.{Act, outside, push, pop, compare, conditional, loop, Op, act, test, jump, label, goto, goto2, header, separator, end, call, return, actOf, written, decode, xOf, yOf, actRec, encode, ops, file}
 use Rattle.rules.specs.Checks.{listed, kindFault, inRow, stackAction, hasStack, fieldFault, fault, faultFrom}
-use Rattle.rules.proofs.Records.{All, Bytes, bytes-drop, Small}
-use Rattle.rules.proofs.Refusals.{neither, when-none}
+use Rattle.laws.proofs.Records.{All, Bytes, bytes-drop, Small}
+use Rattle.laws.proofs.Refusals.{neither, when-none}
 
 -- ## Numbers that fit
 

@@ -8,20 +8,20 @@ use native.Mathlib.Omega.{arith}
 use mathlib.Core.Bool.{Bool, true, false, cond}
 use mathlib.Core.List.{List, [], _∷_, _++_, map, map-append}
 use lib.ListN.{length, drop, length-drop, length-map}
 use Rattle.rules.specs.Record.{bytesOf, recordsOf}
 use Rattle.rules.specs.Instruction.{conditional, loop, Op, act, test, jump, label, goto, goto2, header, separator, end, call, return, encode, ops, file, decode}
 use Rattle.rules.specs.Numbers.{each, given}
 use Rattle.rules.specs.SecondLevel.{Group, members, renumber, sent, laid, removed}
 use Rattle.rules.specs.Skip.{convertedLength}
 use Rattle.rules.specs.Labels.{isLabel, labelFrom, labelAfter, target, target2, unlabel, labels}
 use Rattle.rules.specs.Calls.{chain, uncall, calls}
 use Rattle.rules.specs.Loops.{unloop, loops}
 use Rattle.rules.specs.Conditionals.{uncond, conditionals}
 use Rattle.rules.specs.Convert.{convert}
-use Rattle.rules.proofs.Records.{All, all-append, Small, read-back, records-back}
-use Rattle.rules.proofs.Instructions.{Fit, Named, fit-named, fit-small, decode-encodes}
-use Rattle.rules.proofs.SecondLevel.{renumber-in}
-use Rattle.rules.proofs.Length.{laid-grows, converted-length, labels-length, labels-room, calls-room, loops-room}
+use Rattle.laws.proofs.Records.{All, all-append, Small, read-back, records-back}
+use Rattle.laws.proofs.Instructions.{Fit, Named, fit-named, fit-small, decode-encodes}
+use Rattle.laws.proofs.SecondLevel.{renumber-in}
+use Rattle.laws.proofs.Length.{laid-grows, converted-length, labels-length, labels-room, calls-room, loops-room}
 
 pub all-fit-named : (L : List Op) → All Fit L → All Named L
 all-fit-named [] h = tt

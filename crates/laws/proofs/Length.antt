@@ -16,22 +16,22 @@ use mathlib.Core.List.{List, [], _∷_, _++_, map}
 use lib.ListN.{length, drop, getD, getElem?, length-append}
 use lib.Dec.{eqb}
 use borrow.Author.Tests.{ne-eqb}
 use Rattle.rules.specs.declared.Row.{Row}
 use Rattle.rules.specs.Record.{count}
 use Rattle.rules.specs.Instruction.{conditional, loop, Op, act, test, jump, label, goto, goto2, header, separator, end, call, return, encode, ops}
 use Rattle.rules.specs.declared.Notation.the-variants.{Routine}
 use Rattle.rules.specs.Table.{rows, rowOf}
 use Rattle.rules.specs.Numbers.{at, each, names}
 use Rattle.rules.specs.Skip.{addedBy, added, addedAll, convertedLength}
 use Rattle.rules.specs.SecondLevel.{Group, _▹_, members, renumber, sent, laid, removed}
 use Rattle.rules.specs.Labels.{unlabel, labels}
 use Rattle.rules.specs.Calls.{chain, uncall, calls}
 use Rattle.rules.specs.Loops.{unloop, loops}
 use Rattle.rules.specs.Conditionals.{uncond, conditionals}
 use Rattle.rules.specs.Convert.{convert}
-use Rattle.rules.proofs.Records.{recordAt, ops-drop}
-use Rattle.rules.proofs.Instructions.{tabulated, kindOf, kindOf-out, decode-kind}
-use Rattle.rules.proofs.SecondLevel.{each-length}
+use Rattle.laws.proofs.Records.{recordAt, ops-drop}
+use Rattle.laws.proofs.Instructions.{tabulated, kindOf, kindOf-out, decode-kind}
+use Rattle.laws.proofs.SecondLevel.{each-length}
 
 -- ## The places that an instruction adds
 
