@@ -11,7 +11,7 @@ use Rattle.rules.specs.Numbers.{at}
 use Rattle.rules.specs.Nesting.{bracket, Body, nothing, single, looping, oneArm, twoArms}
 use Rattle.rules.specs.Partners.{Role, opens, ends, roleOf, role, stopAt, stopFrom, endOf, headerOf}
 use Rattle.laws.proofs.Partners.{backAt, back}
-use Rattle.faithful.specs.Items.{orElse, Stands, loop-item, one-arm, two-arms, Partnered, Belongs, by-itself, as-header, as-separator, as-end}
+use Rattle.faithful.specs.Items.{orEnd, Stands, loop-item, one-arm, two-arms, Partnered, Belongs, by-itself, as-header, as-separator, as-end}
 use Rattle.faithful.specs.Promises.{Partners, PartnersFile}
 use Rattle.laws.proofs.Refusals.{admitted}
 use Rattle.faithful.proofs.Grammar.{grammar}
@@ -54,7 +54,7 @@ closed-item {j} {b} {body} rest y t = (
 parted-item : {L : List Op} {j : ℕ} {v : Bool} {a : Act} {one two : List Op} (rest : List Op) → Body one → Body two
     → From L j (header conditional v a ∷ (one ++ (separator ∷ (two ++ (end conditional ∷ rest)))))
     → Partnered L conditional (suc j) (suc (over one (suc j))) (suc (over two (suc (over one (suc j)))))
-unfolding orElse stopFrom stopAt backAt role roleOf bracket
+unfolding orEnd stopFrom stopAt backAt role roleOf bracket
 parted-item {L} {j} {one} {two} rest x y t =
     let t₁ = from-over one (next t) in
     let t₂ = from-over two (next t₁) in
@@ -72,7 +72,7 @@ parted-item {L} {j} {one} {two} rest x y t =
     }
 
 partnered : (L : List Op) (b : Sort) (h k e : ℕ) → Stands L b h k e → Partnered L b h k e
-unfolding orElse role roleOf bracket
+unfolding orEnd role roleOf bracket
 partnered L b h k e (loop-item {j = j} {body = body} rest d y) =
     let p = closed-item rest y (from d) in
     rw (← over-length body (suc j))

@@ -19,15 +19,15 @@ pub data Stands (L : List Op) : Sort → ℕ → ℕ → ℕ → Type 0 where
       → Stands L conditional (suc j) (suc (length one + suc j)) (suc (length two + suc (length one + suc j)))
 
 -- k, or e where there is no k.
-unfoldable pub orElse : ℕ → ℕ → ℕ
-orElse zero e = e
-orElse (suc k) e = suc k
+unfoldable pub orEnd : ℕ → ℕ → ℕ
+orEnd zero e = e
+orEnd (suc k) e = suc k
 
 -- The numbers that stages and steps use are those. A header without separator takes its end as partner.
 pub record Partnered (L : List Op) (b : Sort) (h k e : ℕ) : Type 0 where
   pub its-end : endOf b L h ≡ e
   pub its-header : headerOf b L e ≡ h
-  pub its-arm : b ≡ conditional → armOf L h ≡ orElse k e
+  pub its-arm : b ≡ conditional → armOf L h ≡ orEnd k e
   pub separator-end : (i : ℕ) → k ≡ suc i → endOf conditional L k ≡ e
 
 -- Record i is an item alone, or the header, the separator or the end of an item that stands in L.

@@ -1,10 +1,10 @@
 -- Forms that begin alike, behind their first sign, by the bytes in which they differ.
 --     tests-off, tests-plain, tests-block, tests-loop     `+a`, `+a{`, `+a{*`: no name; nothing, `{` or `{*` behind it
 --     ends-both, ends-one                                 `}{`, `}`
-use mathlib.Core.Path.{_≡_, refl, sym, ap, _∙_}
-use mathlib.Core.Bool.{true, false, cond}
+use mathlib.Core.Path.{_≡_, refl, ap, _∙_}
+use mathlib.Core.Bool.{false}
 use mathlib.Core.List.{List, [], _∷_}
-use Prim.Native.Nat.{ℕ, suc, _+_, _≤_, _<_}
+use Prim.Native.Nat.{ℕ, _+_, _≤_}
 use native.Mathlib.Omega.{arith}
 use lib.ListN.{length}
 use Rattle.text.specs.declared.Sort.the-variants.{Named}

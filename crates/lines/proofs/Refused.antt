@@ -13,7 +13,7 @@ use lib.Dec.{leb}
 use borrow.Author.Tests.{le-leb, lt-leb}
 use Rattle.rules.specs.declared.Refusal.{Refusal}
 use Rattle.rules.specs.Refusals.{told}
-use Rattle.print.specs.Text.{ascii, decimal, filledSign, filled}
+use Rattle.print.specs.Text.{ascii, filledSign, filled}
 use Rattle.print.specs.Printing.{Printed}
 use Rattle.print.proofs.Decimal.{decimal-length}
 use Rattle.print.proofs.Printing.{print-all}

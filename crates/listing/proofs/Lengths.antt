@@ -1,6 +1,6 @@
 -- How long a text can get.
 --     listing-length     a listing has at most 73,744: a first line of at most 16 and, for each of at most 4,096 records, one of at most 18
-use Prim.Native.Nat.{ℕ, suc, _+_, _*_, _≤_, _<_}
+use Prim.Native.Nat.{ℕ, suc, _+_, _*_, _≤_}
 use native.Mathlib.Omega.{arith}
 use mathlib.Core.Bool.{Bool, true, false, cond}
 use mathlib.Core.List.{List, [], _∷_, _++_, map}

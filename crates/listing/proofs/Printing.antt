@@ -1,6 +1,6 @@
 -- The answer of the call by the room for the text.
 --     too-short, shown     where there is too little, and where there is enough
-use mathlib.Core.Path.{_≡_, sym, _∙_}
+use mathlib.Core.Path.{_≡_, _∙_}
 use Prim.Native.Nat.{ℕ, _≤_, _<_}
 use mathlib.Core.List.{List, [], _∷_}
 use lib.ListN.{length}

@@ -7,7 +7,7 @@
 --     proper-out, proper-none, proper-some     whether an entry is a proper name
 use mathlib.Core.Path.{_≡_, refl, sym, ap, _∙_}
 use mathlib.Core.Bool.{Bool, true, false, _&&_}
-use mathlib.Core.List.{List, [], _∷_}
+use mathlib.Core.List.{List, []}
 use Prim.Native.Nat.{ℕ, zero, suc, _+_, _*_, _-_, _/_, _≤_, _<_}
 use native.Mathlib.Omega.{arith}
 use lib.ListN.{length, getD, take, drop, length-drop, drop-of-length-le}
@@ -16,7 +16,7 @@ use lib.Dec.{leb, ltb}
 use borrow.Author.Tests.{le-leb, ltb-true, ltb-false}
 use Rattle.text.specs.declared.Sort.the-variants.{Named}
 use Rattle.text.specs.Bytes.{byteAt, span}
-use Rattle.text.specs.Names.{nameAt, same, entriesOf, entries, padded, entry, nameOf, proper}
+use Rattle.text.specs.Names.{nameAt, same, entriesOf, entries, padded, nameOf, proper}
 use Rattle.text.proofs.Tests.{by-test}
 use Rattle.text.proofs.Reach.{past-end, span-within}
 use Rattle.runs.proofs.Runs.{run-off, span-off}

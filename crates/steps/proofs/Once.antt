@@ -1,6 +1,6 @@
 -- Any two answers that the contract allows are equal, and so is what the entries, the depth, the log and the count of actions then are.
 -- The contract is the function's own, as the check reads it from the source.
-use mathlib.Core.Path.{_≡_, refl, sym, ap, _∙_}
+use mathlib.Core.Path.{_≡_, sym, ap, _∙_}
 use Prim.Native.Nat.{ℕ}
 use native.Mathlib.Omega.{arith}
 use denote.Ref.{now}

@@ -1,6 +1,6 @@
 -- What each deed comes to, by the tests that the code makes.
 use mathlib.Core.Path.{_≡_, refl, ap}
-use Prim.Native.Nat.{ℕ, suc, _+_, _-_, _*_, _/_, _≤_, _<_}
+use Prim.Native.Nat.{ℕ, _+_, _-_, _*_, _/_, _≤_, _<_}
 use native.Mathlib.Omega.{arith}
 use native.Mathlib.Numerals.{add-one}
 use mathlib.Core.Bool.{Bool, true, false, cond}
@@ -14,13 +14,13 @@ use Rattle.rules.specs.declared.Status.the-variants.{NoReply, LogFull, StackFul
 use Rattle.rules.specs.Record.{lowByte, highByte}
 use Rattle.rules.specs.Numbers.{names}
 use Rattle.rules.specs.Stack.{full, pushed, without, popped, top, nonempty, equals}
-use Rattle.rules.specs.Step.{Mem, withStack, go, halt, did, stops, logging, reply, noReplyLeft, logIsFull, perform, agree, branch, leaving}
+use Rattle.rules.specs.Step.{Mem, withStack, go, did, stops, logging, reply, noReplyLeft, logIsFull, perform, agree, branch, leaving}
 use Rattle.stack.specs.declared.StackReply.the-variants.{Yes, Full}
 use Rattle.stack.specs.Methods.{orZero, said, handed, pushing, popping, comparing}
 use Rattle.deeds.specs.declared.Own.{Own}
 use Rattle.deeds.specs.declared.Own.the-variants.{Push, Pop}
 use Rattle.deeds.specs.declared.Deed.the-variants.{Ask, Change, Compare, Return}
-use Rattle.steps.specs.declared.Out.the-variants.{Go, Halt}
+use Rattle.steps.specs.declared.Out.the-variants.{Halt}
 use Rattle.steps.specs.Steps.{mem, done, changed, leads, Went}
 
 -- ## The counter stack's own

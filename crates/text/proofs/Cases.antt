@@ -6,9 +6,7 @@ use Rattle.rules.specs.declared.Refusal.the-variants.{Ragged, Long, Kind, Field
 use Rattle.rules.specs.Record.{Rec, rec, bytesOf}
 use Rattle.rules.specs.Instruction.{encode}
 use Rattle.rules.proofs.Cases.{listed, there-and-back}
-use Rattle.text.specs.declared.TextRefusal.{TextRefusal}
 use Rattle.text.specs.declared.TextRefusal.the-variants.{Text, Name, Earlier}
-use Rattle.text.specs.declared.TextVerdict.{TextVerdict}
 use Rattle.text.specs.declared.TextVerdict.the-variants.{Done, Refused}
 use Rattle.text.specs.Bytes.{ascii}
 use Rattle.text.specs.Names.{padded, entries}

@@ -49,14 +49,14 @@ writes p u text =
     (cond (ltb (length text) (length u)) (Refused (Earlier Room)) (Done (length u)))
     (Refused (Name p))
 
-unfoldable pub orElse : Option Refusal → TextVerdict → TextVerdict
-orElse none v = v
-orElse (some r) v = Refused (Earlier r)
+unfoldable pub unlessRefused : Option Refusal → TextVerdict → TextVerdict
+unlessRefused none v = v
+unlessRefused (some r) v = Refused (Earlier r)
 
 -- write_text(routine, names, text): 1 to 4 of the routine; 13 at 0 for the list, else at the record; then 8.
 unfoldable pub writing : List ℕ → List ℕ → List ℕ → TextVerdict
 writing s l text =
-    orElse (first (recordChecks Routine s))
+    unlessRefused (first (recordChecks Routine s))
     (cond (listFault l) (Refused (Name 0)) (writes (nameless (entries l) (records s)) (textOf (entries l) (records s)) text))
 
 -- ## The contract of both

@@ -6,7 +6,7 @@ use Rattle.rules.specs.Words.{ℕ, suc, true, List, [], _∷_, _++_, length}
 use Rattle.text.specs.declared.Sort.{Sort}
 use Rattle.text.specs.declared.Sort.the-variants.{Blank, Digit, Named}
 use Rattle.text.specs.Bytes.{inSort}
-use Rattle.text.specs.Forms.{Part, itself, name, number, partOf, signsOf}
+use Rattle.text.specs.Forms.{itself, name, number, partOf, signsOf}
 
 -- All bytes are of the sort.
 abbrev pub All : Sort → List ℕ → Type 0

@@ -1,7 +1,7 @@
 -- How long a text can get.
 --     text-length     21 bytes for each record whose fields fit two bytes
 use mathlib.Core.Bool.{Bool, true, false, cond}
-use mathlib.Core.List.{List, [], _∷_, _++_}
+use mathlib.Core.List.{List, [], _∷_}
 use Prim.Native.Nat.{ℕ, _+_, _*_, _≤_}
 use native.Mathlib.Omega.{arith}
 use lib.Dec.{eqb, leb, leb→le}
@@ -9,7 +9,6 @@ use lib.ListN.{length, length-append}
 use Rattle.rules.specs.Record.{Rec}
 use Rattle.laws.proofs.Records.{All, Small}
 use Rattle.text.specs.declared.Sort.the-variants.{Named}
-use Rattle.text.specs.Bytes.{ascii}
 use Rattle.text.specs.Forms.{a, k, s, t, forms, signsOf}
 use Rattle.text.specs.Names.{nameOf, entry}
 use Rattle.text.specs.Writing.{decimal, labelName, writtenSign, writtenSigns, formOf, written, furtherOnes, textOf}

@@ -12,12 +12,12 @@ use native.Mathlib.Omega.{arith}
 use lib.Dec.{eqb}
 use lib.ListN.{length, drop, drop-of-length-le}
 use borrow.Rule.Slice.PartMut.{putMid}
-use Rattle.rules.specs.Record.{Rec, rec, count, records}
+use Rattle.rules.specs.Record.{Rec, count, records}
 use Rattle.laws.proofs.Records.{records-length}
 use Rattle.text.specs.Bytes.{ascii}
 use Rattle.text.specs.Forms.{a, letterOf}
 use Rattle.text.specs.Names.{proper}
-use Rattle.text.specs.Writing.{written, furtherOnes, textOf, namelessFrom, nameless}
+use Rattle.text.specs.Writing.{written, furtherOnes, textOf, namelessFrom}
 use Rattle.records.specs.Reading.{recAt}
 use Rattle.records.proofs.Writing.{rest, rec-drop}
 use Rattle.print.specs.Printing.{Printed}

@@ -4,13 +4,13 @@
 --     equally              the same verdict by another name
 --     unchecked, fits      by the routine's own checks; a text that is not refused has at most 10,752 bytes
 --     ragged, too-many, nameless-at, all-named     by the list and the names
-use mathlib.Core.Path.{_≡_, refl, sym, ap, _∙_, subst}
-use mathlib.Core.Bool.{not, _||_, cond}
+use mathlib.Core.Path.{_≡_, sym, ap, _∙_, subst}
+use mathlib.Core.Bool.{cond}
 use mathlib.Core.Option.{Option, none, some}
-use mathlib.Core.List.{List, [], _∷_, _++_}
-use Prim.Native.Nat.{ℕ, suc, _%_, _/_, _≤_, _<_}
+use mathlib.Core.List.{List}
+use Prim.Native.Nat.{ℕ, _%_, _/_, _≤_, _<_}
 use native.Mathlib.Omega.{arith}
-use lib.ListN.{length, drop}
+use lib.ListN.{length}
 use borrow.Author.Tests.{eq-eqb, ne-eqb, lt-ltb, le-ltb}
 use Rattle.rules.specs.declared.Refusal.{Refusal}
 use Rattle.rules.specs.declared.Refusal.the-variants.{Room}
@@ -32,7 +32,7 @@ use Rattle.text.specs.declared.TextVerdict.{TextVerdict}
 use Rattle.text.specs.declared.TextVerdict.the-variants.{Done, Refused}
 use Rattle.text.specs.Names.{entries, listFault}
 use Rattle.text.specs.Writing.{textOf, nameless}
-use Rattle.text.specs.Answers.{writes, orElse, writing, filled, Answered, textWritten}
+use Rattle.text.specs.Answers.{writes, unlessRefused, writing, filled, Answered, textWritten}
 use Rattle.print.specs.Printing.{Printed}
 use Rattle.print.proofs.Printing.{print-all}
 use Rattle.writer.proofs.Lengths.{text-length}
@@ -60,10 +60,10 @@ module _ (s l text : List ℕ) where
   Later = cond (listFault l) (Refused (Name 0)) (writes (nameless (entries l) (records s)) (textOf (entries l) (records s)) text)
 
   pub unchecked : (r : Refusal) → verdict.Refused r ≡ checkRecords Routine s → writing s l text ≡ Refused (Earlier r)
-  unfolding writing orElse checkRecords paper.verdict verdictOf
+  unfolding writing unlessRefused checkRecords paper.verdict verdictOf
   unchecked r h = by (first (recordChecks Routine s)) h
     where
-      by : (o : Option Refusal) → verdict.Refused r ≡ verdictOf o (count s) → orElse o Later ≡ Refused (Earlier r)
+      by : (o : Option Refusal) → verdict.Refused r ≡ verdictOf o (count s) → unlessRefused o Later ≡ Refused (Earlier r)
       by none e = absurd (let z : _≡_ {A = ℕ} 0 1 = cc in omega arith)
       by (some q) e = let d : r ≡ q = cc in ap (λ (x : Refusal). Refused (Earlier x)) (sym d)
 
@@ -76,7 +76,7 @@ module _ (s l text : List ℕ) where
         omega (arith, text-length (entries l) (records s) small, records-length s, f .few)
 
     checked : writing s l text ≡ Later
-    unfolding writing orElse checkRecords
+    unfolding writing unlessRefused checkRecords
     checked = rw (accepted-none (recordChecks Routine s) (count s) (sym h))
 
     pub ragged : (length l % 16 ≡ 0 → ⊥) → writing s l text ≡ Refused (Name 0)

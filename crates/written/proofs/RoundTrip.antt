@@ -16,7 +16,7 @@ use Rattle.text.specs.declared.TextVerdict.the-variants.{Done, Refused}
 use Rattle.text.specs.Names.{entriesOf, entries, listFault}
 use Rattle.text.specs.Reading.{Reading, reads, refused, readText}
 use Rattle.text.specs.Writing.{textOf, nameless}
-use Rattle.text.specs.Answers.{fits, reading, recordsRead, writes, orElse, writing, bytesRead, textWritten}
+use Rattle.text.specs.Answers.{fits, reading, recordsRead, writes, unlessRefused, writing, bytesRead, textWritten}
 use Rattle.text.proofs.Tests.{by-test}
 use Rattle.grammar.proofs.Spelt.{or-right}
 use Rattle.written.specs.Promises.{RecordsBack, again, RoundTrip}
@@ -98,7 +98,7 @@ module _ (w l : List ℕ) (n : ℕ) (g : Read w l n) where
   all-named = ap (nameless (entries l)) records-are ∙ records-again w (entries l) (g .rs) (g .is-read) .0
 
   written-again : (text : List ℕ) → length (again w l) ≤ length text → writing (bytesRead w l) l text ≡ Done (length (again w l))
-  unfolding writing writes orElse textWritten
+  unfolding writing writes unlessRefused textWritten
   written-again text h = rw (unrefused, g .no-fault, all-named, le-ltb (length text) (length (again w l)) h)
 
   read-again : (out : List ℕ) → 8 * n ≤ length out → reading (again w l) l out ≡ Done n

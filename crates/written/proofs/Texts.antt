@@ -20,7 +20,7 @@ use Rattle.text.specs.Bytes.{blank, inSort}
 use Rattle.text.specs.Forms.{a, signsOf, letterOf}
 use Rattle.text.specs.Names.{entries, listFault, proper}
 use Rattle.text.specs.Writing.{written, writtenSigns, furtherOnes, textOf, namelessFrom, nameless}
-use Rattle.text.specs.Answers.{writes, orElse, writing, textWritten}
+use Rattle.text.specs.Answers.{writes, unlessRefused, writing, textWritten}
 use Rattle.text.specs.Grammar as grammar
 use Rattle.text.specs.Grammar.{All, Some, last, more, blanks, some}
 use Rattle.text.proofs.Tests.{by-test, never}
@@ -80,8 +80,8 @@ pub record Writable (f l : List ℕ) : Type 0 where
   pub checked : first (recordChecks Routine f) ≡ none
   pub all-named : nameless (entries l) (records f) ≡ 0
 
-no-earlier : (c : Option Refusal) (v : TextVerdict) (n : ℕ) → orElse c v ≡ Done n → (c ≡ none) × (v ≡ Done n)
-unfolding orElse
+no-earlier : (c : Option Refusal) (v : TextVerdict) (n : ℕ) → unlessRefused c v ≡ Done n → (c ≡ none) × (v ≡ Done n)
+unfolding unlessRefused
 no-earlier none v n e = (refl, e)
 no-earlier (some r) v n e = absurd (let z : _≡_ {A = ℕ} 0 1 = cc in omega arith)
 

@@ -1,5 +1,4 @@
 use borrow.Author.Needs.{needs}
-use Rattle.lines.proofs.Refused.{Within}
 use Rattle.listing.proofs.Room.{within}
 use Rattle.list.proofs.print.Statement.{statement}
 use Rattle.list.proofs.print.Tie as tie

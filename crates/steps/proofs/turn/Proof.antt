@@ -1,4 +1,3 @@
-use mathlib.Core.Path.{refl}
 use Rattle.steps.specs.Steps.{done}
 use borrow.Author.Needs.{needs}
 use Rattle.steps.proofs.turn.Statement.{statement}

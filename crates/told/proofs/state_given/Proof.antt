@@ -1,4 +1,4 @@
-use mathlib.Core.Path.{_≡_, refl}
+use mathlib.Core.Path.{refl}
 use borrow.Author.Needs.{needs}
 use Rattle.told.specs.Numbers.{stateGiven}
 use Rattle.told.proofs.state_given.Statement.{statement}

@@ -1,4 +1,3 @@
-use mathlib.Core.Path.{_≡_}
 use borrow.Author.Needs.{needs}
 use Rattle.rules.specs.Run.{statusNumber}
 use Rattle.told.proofs.status_of.Statement.{statement}

@@ -1,4 +1,3 @@
-use mathlib.Core.Path.{_≡_, refl}
 use borrow.Author.Needs.{needs}
 use Rattle.told.specs.Numbers.{stateTold}
 use Rattle.told.proofs.tell_state.Statement.{statement}

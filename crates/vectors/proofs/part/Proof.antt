@@ -1,7 +1,6 @@
 use mathlib.Core.Path.{sym}
 use native.Mathlib.Omega.{arith}
 use borrow.Author.Needs.{needs}
-use lib.ListN.{length}
 use lib.Seq.{length-take-le}
 use Rattle.vectors.proofs.part.Statement.{statement}
 use Rattle.vectors.proofs.part.Tie as tie

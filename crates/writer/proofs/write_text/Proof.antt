@@ -1,4 +1,4 @@
-use mathlib.Core.Path.{_≡_, sym, _∙_}
+use mathlib.Core.Path.{sym, _∙_}
 use borrow.Author.Needs.{needs}
 use Rattle.text.specs.declared.TextRefusal.the-variants.{Name, Earlier}
 use Rattle.writer.proofs.Whole.{refuses, equally, unchecked, fits, ragged, too-many, nameless-at, all-named}
