@@ -14,7 +14,7 @@ use Rattle.text.specs.Names.{nameOf, entry}
 use Rattle.text.specs.Writing.{decimal, labelName, writtenSign, writtenSigns, formOf, written, furtherOnes, textOf}
 use Rattle.signs.proofs.Signs.{each}
 use Rattle.names.proofs.Same.{run-most}
-use Rattle.writer.proofs.Signs.{five-digits}
+use Rattle.phrases.proofs.Signs.{five-digits}
 
 -- the most bytes that a sign is written as, and a form
 abbrev weight : ℕ → ℕ

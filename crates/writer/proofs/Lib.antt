@@ -1,5 +1,4 @@
-pub mod Signs
 pub mod Lengths
-pub mod Texts
+pub mod Named
 pub mod Whole
 pub mod Once

@@ -8,7 +8,8 @@ use Rattle.rules.specs.Record.{rec, count, records}
 use Rattle.text.specs.Names.{entries}
 use Rattle.text.specs.Writing.{namelessFrom, nameless}
 use Rattle.records.proofs.Writing.{copied}
-use Rattle.writer.proofs.Texts.{named-on, named-off, none-behind}
+use Rattle.phrases.proofs.Texts.{none-behind}
+use Rattle.writer.proofs.Named.{named-on, named-off}
 use Rattle.writer.proofs.first_nameless.Statement.{statement}
 use Rattle.writer.proofs.first_nameless.Tie as tie
 

@@ -7,9 +7,9 @@ use Rattle.rules.specs.Record.{rec}
 use Rattle.text.specs.Names.{entries}
 use Rattle.signs.proofs.Signs.{sign-eight}
 use Rattle.print.proofs.Printing.{print-sizes, print-more}
-use Rattle.writer.proofs.Signs.{Signing, signing, sign-turn, sign-end}
-use Rattle.writer.proofs.put_instruction.Statement.{statement}
-use Rattle.writer.proofs.put_instruction.Tie as tie
+use Rattle.phrases.proofs.Signs.{Signing, signing, sign-turn, sign-end}
+use Rattle.phrases.proofs.put_instruction.Statement.{statement}
+use Rattle.phrases.proofs.put_instruction.Tie as tie
 
 abbrev Inv-loop : tie.InvT-loop
 Inv-loop names kind x y text₀ form at₀ j₀ text at j = (j ≤ 8) × Signing (entries names) (rec kind x y) form text₀ text at j

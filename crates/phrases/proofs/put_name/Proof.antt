@@ -7,8 +7,8 @@ use borrow.Author.Needs.{needs}
 use Rattle.text.specs.Names.{entries, nameOf}
 use Rattle.names.proofs.Entries.{name-part}
 use Rattle.print.proofs.Printing.{print-none, print-as}
-use Rattle.writer.proofs.put_name.Statement.{statement}
-use Rattle.writer.proofs.put_name.Tie as tie
+use Rattle.phrases.proofs.put_name.Statement.{statement}
+use Rattle.phrases.proofs.put_name.Tie as tie
 
 empty : (u : List ℕ) → length u ≡ 0 → u ≡ []
 empty [] h = refl

@@ -6,9 +6,9 @@ use Rattle.rules.specs.Record.{rec}
 use Rattle.text.specs.Names.{entries}
 use Rattle.text.specs.Writing.{writtenSign}
 use Rattle.print.proofs.Printing.{no-byte, byte, print-as}
-use Rattle.writer.proofs.Signs.{name, number, label, second, other}
-use Rattle.writer.proofs.put_sign.Statement.{statement}
-use Rattle.writer.proofs.put_sign.Tie as tie
+use Rattle.phrases.proofs.Signs.{name, number, label, second, other}
+use Rattle.phrases.proofs.put_sign.Statement.{statement}
+use Rattle.phrases.proofs.put_sign.Tie as tie
 
 -- a sign that is no letter
 itself : (c : tie.Else4) → let a = c .before .before .before .before .before .before .args in writtenSign (entries (a .names .now)) (rec (a .kind) (a .x) (a .y)) (a .p) ≡ a .p ∷ []

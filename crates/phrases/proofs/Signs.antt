@@ -1,5 +1,6 @@
 -- The signs of a record's form, written one after the other.
 --     same-decimal, five-digits     a number in decimal is what is printed as one; below 65,536 it has five digits at most
+--     form-by-kind, form-bang, form-jump     the form of a record
 --     name, number, label, second, other     what a sign is written as
 --     Signing, signing, sign-turn, sign-end     what is written of the form before sign number j: none; one sign more; the end
 use mathlib.Core.Path.{_≡_, refl, sym, ap, _∙_}
@@ -11,7 +12,7 @@ use lib.Dec.{ltb}
 use lib.ListN.{length, drop}
 use borrow.Author.Tests.{eq-eqb, ne-eqb}
 use borrow.Rule.Slice.PartMut.{putMid}
-use Rattle.rules.specs.Record.{Rec}
+use Rattle.rules.specs.Record.{Rec, rec}
 use Rattle.text.specs.Bytes.{byteAt}
 use Rattle.text.specs.Forms.{a, k, s, t, signsOf}
 use Rattle.text.specs.Names.{nameOf}
@@ -39,6 +40,19 @@ five-digits n h = rw (same-decimal n) (decimal-length 4 n (omega arith))
 same-label : (n : ℕ) → labelName n ≡ print.filled (print.ascii "Lx") n 0
 unfolding print.filled print.filledSign
 same-label n = rw (same-decimal n, append-nil (print.decimal n))
+
+module _ (kind x y : ℕ) where
+  pub form-by-kind : ¬ (kind ≡ 4) → formOf (rec kind x y) ≡ kind
+  unfolding formOf
+  form-by-kind h = rw (ne-eqb _ _ h)
+
+  pub form-bang : kind ≡ 4 → x ≡ 0 → formOf (rec kind x y) ≡ 17
+  unfolding formOf
+  form-bang h z = rw (eq-eqb _ _ h, eq-eqb _ _ z)
+
+  pub form-jump : kind ≡ 4 → ¬ (x ≡ 0) → formOf (rec kind x y) ≡ 4
+  unfolding formOf
+  form-jump h z = rw (eq-eqb _ _ h, ne-eqb _ _ z)
 
 module _ (es : List (List ℕ)) (r : Rec) (p : ℕ) where
   pub name : p ≡ a → writtenSign es r p ≡ nameOf es (r .x)
