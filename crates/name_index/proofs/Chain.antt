@@ -16,18 +16,9 @@ use lib.Dec.{eqb, ltb}
 use borrow.Author.Tests.{eqb-true, eqb-false, eq-eqb, ne-eqb, le-leb, lt-leb, lt-ltb, le-ltb}
 use Rattle.text.specs.Names.{same, placeFrom, entry, entriesOf, entries}
 use Rattle.text.proofs.Tests.{by-test}
+use Rattle.names.proofs.Same.{same-is}
 use Rattle.names.proofs.Entries.{entry-of}
 use Rattle.name_index.specs.Index.{partFrom, partOf, Tables, enter, entered, room, filled, both, Fills, along, looked, Indexed}
-
-same-is : (u v : List ℕ) → same u v ≡ true → u ≡ v
-unfolding same
-same-is [] [] e = refl
-same-is [] (c ∷ v) e = absurd (let z : _≡_ {A = ℕ} 0 1 = cc in omega arith)
-same-is (b ∷ u) [] e = absurd (let z : _≡_ {A = ℕ} 0 1 = cc in omega arith)
-same-is (b ∷ u) (c ∷ v) e =
-    by-test (eqb b c)
-    (λ t. let h : same u v ≡ true = rw t at e in let p : b ≡ c = eqb-true b c t in rw (p, same-is u v h))
-    (λ t. absurd (let h : false ≡ true = rw t at e in let z : _≡_ {A = ℕ} 0 1 = cc in omega arith))
 
 part-small : (v : List ℕ) (h : ℕ) → h < 512 → partFrom v h < 512
 unfolding partFrom

@@ -1,25 +1,35 @@
 -- Bytes compared, and the bytes of runs.
 --     same-on, same-off     one byte more, or one that differs
---     same-sizes            lists of different length differ
+--     same-is               the same bytes are equal
 --     run-get               a byte of a run is one of the text
 --     run-take              a run is a part of the text
 --     run-same              runs over the same bytes are the same
 --     padded-get            padding adds zeros
 use mathlib.Core.Path.{_≡_, refl, sym, ap, _∙_}
-use mathlib.Core.Bool.{false}
-use mathlib.Core.List.{List, _∷_}
+use mathlib.Core.Bool.{true, false}
+use mathlib.Core.List.{List, [], _∷_}
 use Prim.Native.Nat.{ℕ, zero, suc, _+_, _-_, _≤_, _<_}
 use native.Mathlib.Numerals.{add-one}
 use native.Mathlib.Omega.{arith}
 use lib.ListN.{length, getD, take, drop, replicate, length-append, length-replicate, List·getD-append, List·getD-eq-default}
 use lib.Seq.{drop-cons, getD-append-add}
-use borrow.Author.Tests.{eq-eqb, ne-eqb, ltb-true, ltb-false}
-use lib.Dec.{ltb}
+use borrow.Author.Tests.{eqb-true, eq-eqb, ne-eqb, ltb-true, ltb-false}
+use lib.Dec.{eqb, ltb}
 use Rattle.text.specs.declared.Sort.{Sort}
 use Rattle.text.specs.Bytes.{byteAt, inSort, run, span}
 use Rattle.text.specs.Names.{same, padded}
 use Rattle.text.proofs.Tests.{by-test}
 use Rattle.text.proofs.Reach.{in-text}
+
+pub same-is : (u v : List ℕ) → same u v ≡ true → u ≡ v
+unfolding same
+same-is [] [] e = refl
+same-is [] (c ∷ v) e = absurd (let z : _≡_ {A = ℕ} 0 1 = cc in omega arith)
+same-is (b ∷ u) [] e = absurd (let z : _≡_ {A = ℕ} 0 1 = cc in omega arith)
+same-is (b ∷ u) (c ∷ v) e =
+    by-test (eqb b c)
+    (λ t. let h : same u v ≡ true = rw t at e in let p : b ≡ c = eqb-true b c t in rw (p, same-is u v h))
+    (λ t. absurd (let h : false ≡ true = rw t at e in let z : _≡_ {A = ℕ} 0 1 = cc in omega arith))
 
 module _ (u v : List ℕ) (m : ℕ) (hu : m < length u) (hv : m < length v) where
   pub same-on : getD u m 0 ≡ getD v m 0 → same (drop m u) (drop m v) ≡ same (drop (m + 1) u) (drop (m + 1) v)

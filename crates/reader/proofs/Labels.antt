@@ -1,5 +1,4 @@
--- Labels looked up among those so far, and a new one kept.
---     label-on, label-off                  the label looked for, or the search goes on behind it
+-- A label looked up, and a new one kept.
 --     label-old, label-none, label-new     one that stood before, the thousandth, a new one
 use mathlib.Core.Path.{_≡_, refl, ap, _∙_}
 use mathlib.Core.Bool.{true, false}
@@ -12,23 +11,16 @@ use lib.ListN.{length, getD, take, drop, set, length-set, length-map}
 use lib.Seq.{drop-cons, getD-take, length-take-le, take-suc-set, getD-set-same, getD-set-other}
 use borrow.Author.Tests.{eq-eqb, ne-eqb, eqb-true, eqb-false, lt-ltb, le-ltb}
 use Rattle.text.specs.Names.{nameAt, same, placeFrom, placeOf, labelOf, withLabel}
-use Rattle.text.proofs.Tests.{by-test}
-use Rattle.reader.specs.Labels.{Places, labelsOf, Labelled}
+use Rattle.text.proofs.Tests.{by-test, cond-has}
+use Rattle.label_numbers.specs.Labels.{labelsOf}
+use Rattle.reader.specs.Labels.{Places, Labelled}
 
-module _ (w f : List ℕ) (c i : ℕ) (u : List ℕ) (lt : i < c) (le : c ≤ length f) where
-  next : drop i (take c f) ≡ getD f i 0 ∷ drop (i + 1) (take c f)
-  next =
-      let n : i < length (take c f) = omega (arith, length-take-le c f le) in
-      rw add-one (drop-cons (take c f) i 0 n ∙ ap (λ q. q ∷ drop (suc i) (take c f)) (getD-take c f i 0 lt))
-
-  pub label-on : same u (nameAt w (getD f i 0)) ≡ true → placeFrom (i + 1) u (map (nameAt w) (drop i (take c f))) ≡ i + 1
-  unfolding placeFrom
-  label-on h = rw (next, h)
-
-  pub label-off : same u (nameAt w (getD f i 0)) ≡ false
-      → placeFrom (i + 1) u (map (nameAt w) (drop i (take c f))) ≡ placeFrom (i + 1 + 1) u (map (nameAt w) (drop (i + 1) (take c f)))
-  unfolding placeFrom
-  label-off h = rw (next, h, add-one (i + 1))
+-- a place is one of those that were looked at
+pub place-within : (u : List ℕ) (i : ℕ) (us : List (List ℕ)) → placeFrom (suc i) u us ≤ i + length us
+unfolding placeFrom
+place-within u i [] = omega arith
+place-within u i (v ∷ us) =
+    cond-has (λ n. n ≤ i + suc (length us)) (same u v) (suc i) (placeFrom (suc (suc i)) u us) (λ _. omega arith) (λ _. omega (arith, place-within u (suc i) us))
 
 map-snoc : (g : ℕ → List ℕ) (xs : List ℕ) (y : ℕ) → map g (xs ++ (y ∷ [])) ≡ map g xs ++ (g y ∷ [])
 map-snoc g [] y = refl
@@ -38,11 +30,11 @@ module _ (w f : List ℕ) (c at i : ℕ) (le : c ≤ 999) (full : length f ≡ 9
   many : length (labelsOf w c f) ≡ c
   many = length-map (take c f) (nameAt w) ∙ length-take-le c f (omega arith)
 
-  pub label-old : i ≤ c → (i ≡ 0 → ⊥) → Labelled w f c at (record { number = i; count = c }) f
+  pub label-old : (i ≡ 0 → ⊥) → Labelled w f c at (record { number = i; count = c }) f
   unfolding labelOf withLabel
-  label-old h n = record {
+  label-old n = record {
     number = rw (← e, ne-eqb i 0 n);
-    small = omega arith;
+    small = omega (arith, e, many, place-within (nameAt w at) 0 (labelsOf w c f));
     few = le;
     kept = λ _. rw (← e, ne-eqb i 0 n);
     places = places;

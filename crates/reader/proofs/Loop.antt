@@ -16,7 +16,8 @@ use Rattle.text.specs.declared.TextRefusal.{TextRefusal}
 use Rattle.text.specs.Bytes.{span}
 use Rattle.text.specs.Reading.{Next, made, bad, nextOf, reads, refused, onwards, readFrom, readText}
 use Rattle.reader.specs.declared.Step.the-variants.{Made, Bad}
-use Rattle.reader.specs.Labels.{Places, labelsOf}
+use Rattle.label_numbers.specs.Labels.{labelsOf}
+use Rattle.reader.specs.Labels.{Places}
 use Rattle.reader.specs.Steps.{Stepped}
 
 pub record Going (w : List ℕ) (es : List (List ℕ)) (at n c : ℕ) (p : List ℕ) (rs : List Rec) : Type 0 where

@@ -22,11 +22,14 @@ use Rattle.text.specs.Reading.{Next, formRecord, settled, withAction, withNumbe
 use Rattle.text.proofs.Tests.{by-test, cond-has}
 use Rattle.text.proofs.Reach.{span-within}
 use Rattle.forms.proofs.Inside.{Inside, best-inside}
+use Rattle.name_index.proofs.Chain.{entries-length}
 use Rattle.reader.specs.declared.Step.{Step}
 use Rattle.reader.specs.declared.Step.the-variants.{Made, Bad}
 use Rattle.reader.specs.declared.Numbered.{Numbered}
-use Rattle.reader.specs.Labels.{Places, labelsOf, Labelled}
+use Rattle.label_numbers.specs.Labels.{labelsOf}
+use Rattle.reader.specs.Labels.{Places, Labelled}
 use Rattle.reader.specs.Steps.{meant, settledStep, Sound, StepBy, StepsBy, Ahead, Stepped}
+use Rattle.reader.proofs.Labels.{place-within}
 
 settled-meant : (w : List ℕ) (f : Fit) (x y c : ℕ) (p : List ℕ) → meant w (settledStep f x y c) p ≡ settled f x y (labelsOf w c p)
 unfolding settledStep settled formRecord
@@ -44,15 +47,8 @@ settled-sound f x y c w p le q n =
     (λ h. tt)
 
 -- an action's number is at most the count of entries
-place-most : (u : List ℕ) (l : List ℕ) (i n : ℕ) → placeFrom i u (entriesOf n l) ≤ i + n
-unfolding placeFrom
-place-most u l i zero = omega arith
-place-most u l i (suc n) =
-    cond-has (λ v. v ≤ i + suc n) (same u (take 16 l)) i (placeFrom (suc i) u (entriesOf n (drop 16 l))) (λ _. omega arith)
-    (λ _. omega (arith, place-most u (drop 16 l) (suc i) n))
-
 pub action-small : (l u : List ℕ) → length l < 16000 → actionOf (entries l) u ≤ 1000
-action-small l u h = omega (arith, place-most (padded 16 u) l 1 (length l / 16))
+action-small l u h = omega (arith, place-within (padded 16 u) 0 (entries l), entries-length (length l / 16) l)
 
 module _ (w : List ℕ) (f : Fit) (c : ℕ) (le : c ≤ 999) where
   -- a step of one instruction is a step of an equal one

@@ -1,17 +1,14 @@
--- The labels so far, as the code keeps them: the places where they first stood.
+-- Labels looked up and kept.
 use mathlib.Core.Path.{_≡_}
 use Prim.Native.Nat.{_≤_}
-use Rattle.rules.specs.Words.{ℕ, List, map, length, take, getD}
+use Rattle.rules.specs.Words.{ℕ, List, length, getD}
 use Rattle.text.specs.Names.{nameAt, labelOf, withLabel}
+use Rattle.label_numbers.specs.Labels.{labelsOf}
 use Rattle.reader.specs.declared.Numbered.{Numbered}
 
 -- Each of these is a place of the text, or its end.
 abbrev pub Places : List ℕ → List ℕ → Type 0
 Places w f = (k : ℕ) → getD f k 0 ≤ length w
-
--- The first c of them are those of the labels so far.
-abbrev pub labelsOf : List ℕ → ℕ → List ℕ → List (List ℕ)
-labelsOf w c f = map (nameAt w) (take c f)
 
 -- The label at `at` was looked up, and a new one kept.
 pub record Labelled (w f : List ℕ) (c at : ℕ) (r : Numbered) (f′ : List ℕ) : Type 0 where

@@ -6,6 +6,7 @@ use Rattle.rules.specs.Record.{Rec, bytesOf}
 use Rattle.text.specs.declared.TextVerdict.{TextVerdict}
 use Rattle.text.specs.declared.TextVerdict.the-variants.{Done, Refused}
 use Rattle.text.specs.Reading.{Reading, reads, refused}
+use Rattle.text.specs.Answers.{fits, recordsRead, Answered}
 
 -- The records at the start of the page, which was o, if they are no more than 512.
 abbrev pub Kept : List Rec → List ℕ → List ℕ → Type 0
@@ -28,3 +29,7 @@ pub record ReadTo (q : Reading) (o : List ℕ) (r : TextVerdict) (w : List ℕ) 
   pub answers : r ≡ counted q
   pub holds : Held q o w
   pub same : length w ≡ length o
+
+-- What the pass over a text answered and left on the page is handed on as the answer to the text.
+abbrev pub HandedOn : TextVerdict → List ℕ → List ℕ → TextVerdict → List ℕ → Type 0
+HandedOn all w out r out′ = (q : Reading) (o : List ℕ) → ReadTo q o all w → Answered (fits q out) (bytesOf (recordsRead q)) out r out′

@@ -8,7 +8,8 @@ use Rattle.text.specs.declared.TextRefusal.the-variants.{Text}
 use Rattle.text.specs.Reading.{Next, made, bad, nextOf}
 use Rattle.reader.specs.declared.Step.{Step}
 use Rattle.reader.specs.declared.Step.the-variants.{Made, Bad}
-use Rattle.reader.specs.Labels.{Places, labelsOf}
+use Rattle.label_numbers.specs.Labels.{labelsOf}
+use Rattle.reader.specs.Labels.{Places}
 
 -- The definition's next instruction, where the labels' places are f.
 abbrev pub meant : List ℕ → Step → List ℕ → Next

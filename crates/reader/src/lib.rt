@@ -1,13 +1,11 @@
-// A typed routine read to its records. No name is copied: a label is known by the place where it first stood, and the text is compared
-// with itself.
+// A typed routine read to its records.
 use forms::best;
+use label_numbers::label_number;
 use name_index::fill_index;
 use name_index::indexed_action;
 use names::number_at;
 use records::put_record;
 use rules::Refusal;
-use runs::byte_at;
-use runs::in_sort;
 use runs::span_of;
 use signs::letter_of;
 use text::Fit;
@@ -19,14 +17,13 @@ ghost use mathlib.Core.List.{_++_};
 ghost use Prim.Native.Nat.{_+_, _≤_, _<_};
 ghost use lib.ListN.{length, drop};
 ghost use Rattle.rules.specs.Record.{rec};
-ghost use Rattle.text.specs.Bytes.{span};
-ghost use Rattle.text.specs.Names.{nameAt, same, placeOf, entries};
+ghost use Rattle.text.specs.Names.{entries};
 ghost use Rattle.text.specs.Reading.{settled, withAction, withNumber, withLabelAt, withSecond, readText};
 ghost use Rattle.text.specs.Answers.{reading, bytesRead, Answered};
 ghost use Rattle.name_index.specs.Index.{Indexed};
-ghost use Rattle.reader.specs.Labels.{Places, labelsOf, Labelled};
+ghost use Rattle.reader.specs.Labels.{Places, Labelled};
 ghost use Rattle.reader.specs.Steps.{settledStep, StepBy, StepsBy, Stepped};
-ghost use Rattle.reader.specs.Pages.{Keeps, ReadTo};
+ghost use Rattle.reader.specs.Pages.{Keeps, ReadTo, HandedOn};
 
 // A label's number, 0 for the thousandth, and how many labels there then are.
 pub struct Numbered {
@@ -38,41 +35,6 @@ pub struct Numbered {
 pub enum Step {
     Made(u8, u16, u16, usize, usize),
     Bad(TextRefusal),
-}
-
-// The name at `at`, which has n bytes, is the name at q.
-fn same_name(s: &[u8], at: usize, n: usize, q: usize) -> bool
-    requires { ⌜ (at ≤ length (now s)) × (n ≡ span Sort.Named (now s) at 16) × (q ≤ length (now s)) ⌝ }
-    ensures { λ r. ⌜ r ≡ same (nameAt (now (s .entry)) at) (nameAt (now (s .entry)) q) ⌝ }
-{
-    let mut m = 0;
-    while m < n {
-        if byte_at(s, at + m) != byte_at(s, q + m) {
-            return false;
-        }
-        m += 1;
-    }
-    if n == 16 {
-        return true;
-    }
-    !in_sort(Sort::Named, byte_at(s, q + n))
-}
-
-// The number of the label at `at` among the first `count` places of labels; 0 where it is new.
-fn label_number(s: &[u8], firsts: &[usize], count: usize, at: usize) -> usize
-    requires { ⌜ (count ≤ length (now firsts)) × (at ≤ length (now s)) ⌝ }
-    requires { ⌜ Places (now s) (now firsts) ⌝ }
-    ensures { λ r. ⌜ (r ≡ placeOf (nameAt (now (s .entry)) at) (labelsOf (now (s .entry)) count (now (firsts .entry)))) × (r ≤ count) ⌝ }
-{
-    let n = span_of(Sort::Named, s, at, 16);
-    let mut i = 0;
-    while i < count {
-        if same_name(s, at, n, firsts[i]) {
-            return i + 1;
-        }
-        i += 1;
-    }
-    0
 }
 
 // The label at `at`: a new one is kept, but for the thousandth.
@@ -259,6 +221,26 @@ fn copy(from: &[u8], out: &mut [u8])
     }
 }
 
+// The records on the page to the output, where they are not too many; the answer to the pass that read them.
+fn put_page(all: TextVerdict, page: &[u8], out: &mut [u8]) -> TextVerdict
+    requires { ⌜ length (now page) ≡ 4096 ⌝ }
+    ensures { λ r. ⌜ HandedOn all (now (page .entry)) (now (out .entry)) r (now (out .exit)) ⌝ }
+{
+    match all {
+        TextVerdict::Refused(refusal) => TextVerdict::Refused(refusal),
+        TextVerdict::Done(n) => {
+            if 512 < n {
+                return TextVerdict::Refused(TextRefusal::Earlier(Refusal::Long));
+            }
+            if out.len() < 8 * n {
+                return TextVerdict::Refused(TextRefusal::Earlier(Refusal::Room));
+            }
+            copy(&page[..8 * n], out);
+            TextVerdict::Done(n)
+        }
+    }
+}
+
 // A typed routine read to records, in the first 8 bytes each of the output. Refusals: 13 at 0 for a list of names that is ragged or
 // above 999 entries; 12 and 13, whichever comes first in the text; 2; 8.
 pub fn read_text(text: &[u8], names: &[u8], out: &mut [u8]) -> TextVerdict
@@ -273,17 +255,5 @@ pub fn read_text(text: &[u8], names: &[u8], out: &mut [u8]) -> TextVerdict
     }
     let mut page = [0u8; 4096];
     let all = read_all(text, names, &mut page);
-    match all {
-        TextVerdict::Refused(refusal) => TextVerdict::Refused(refusal),
-        TextVerdict::Done(n) => {
-            if 512 < n {
-                return TextVerdict::Refused(TextRefusal::Earlier(Refusal::Long));
-            }
-            if out.len() < 8 * n {
-                return TextVerdict::Refused(TextRefusal::Earlier(Refusal::Room));
-            }
-            copy(&page[..8 * n], out);
-            TextVerdict::Done(n)
-        }
-    }
+    put_page(all, &page, out)
 }

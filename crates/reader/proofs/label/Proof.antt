@@ -8,14 +8,14 @@ pub label-spec : {M : Type 1} → statement M
 label-spec =
     tie.close
     (tie.spec
-    (λ c κs. ((omega arith, omega arith), c .before .before .before .pre .1))
+    (λ c κs. search needs)
     (λ c. search needs)
-    (λ c. let s = c .before .before .before .before .before in let a = s .args in let n = c .before .label-number in label-old (a .s .now) (a .firsts .now) (a .count) (a .at) (n .result) (omega arith) (omega arith) (s .pre .1) (n .ensures .0) (n .ensures .1) (c .if1 .taken))
+    (λ c. let s = c .before .before .before .before .before in let a = s .args in let n = c .before .label-number in label-old (a .s .now) (a .firsts .now) (a .count) (a .at) (n .result) (omega arith) (omega arith) (s .pre .1) (n .ensures) (c .if1 .taken))
     (λ c. search needs)
-    (λ c. let s = c .before .before .before .before .before .before in let a = s .args in let n = c .before .before .label-number in label-none (a .s .now) (a .firsts .now) (a .count) (a .at) (n .result) (omega arith) (omega arith) (s .pre .1) (n .ensures .0) (c .before .if1 .left) (c .if2 .taken))
+    (λ c. let s = c .before .before .before .before .before .before in let a = s .args in let n = c .before .before .label-number in label-none (a .s .now) (a .firsts .now) (a .count) (a .at) (n .result) (omega arith) (omega arith) (s .pre .1) (n .ensures) (c .before .if1 .left) (c .if2 .taken))
     (λ c. omega arith)
     (λ c. omega (arith, c .if2 .left))
     (λ c. omega arith)
     (λ c. omega arith)
     (λ c. search needs)
-    (λ c. let s = c .before .before .before .before .before .before in let a = s .args in let n = c .before .before .label-number in label-new (a .s .now) (a .firsts .now) (a .count) (a .at) (n .result) (omega arith) (omega arith) (s .pre .1) (n .ensures .0) (c .before .if1 .left) (c .if2 .left) (omega arith)))
+    (λ c. let s = c .before .before .before .before .before .before in let a = s .args in let n = c .before .before .label-number in label-new (a .s .now) (a .firsts .now) (a .count) (a .at) (n .result) (omega arith) (omega arith) (s .pre .1) (n .ensures) (c .before .if1 .left) (c .if2 .left) (omega arith)))

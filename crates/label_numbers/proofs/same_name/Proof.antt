@@ -10,9 +10,9 @@ use Rattle.text.specs.Names.{nameAt, same}
 use Rattle.text.proofs.Reach.{in-text}
 use Rattle.runs.proofs.Runs.{span-on}
 use Rattle.names.proofs.Same.{run-most}
-use Rattle.reader.proofs.Names.{in-name, out-of-name, Left, name-on, name-off, name-end, name-full}
-use Rattle.reader.proofs.same_name.Statement.{statement}
-use Rattle.reader.proofs.same_name.Tie as tie
+use Rattle.label_numbers.proofs.Names.{in-name, out-of-name, Left, name-on, name-off, name-end, name-full}
+use Rattle.label_numbers.proofs.same_name.Statement.{statement}
+use Rattle.label_numbers.proofs.same_name.Tie as tie
 
 abbrev Inv-loop : tie.InvT-loop
 Inv-loop s at n q m₀ m =
