@@ -1,5 +1,5 @@
 -- The signs of a record's form, written one after the other.
---     same-decimal, five-digits     a number in decimal is what is printed as one; below 65,536 it has five digits at most
+--     same-decimal, same-label, five-digits     a number in decimal and a label are what is printed; a number below 65,536 has five digits at most
 --     form-by-kind, form-bang, form-jump     the form of a record
 --     name, number, label, second, other     what a sign is written as
 --     Signing, signing, sign-turn, sign-end     what is written of the form before sign number j: none; one sign more; the end
@@ -37,7 +37,7 @@ pub five-digits : (n : ℕ) → n < 65536 → length (decimal n) ≤ 5
 five-digits n h = rw (same-decimal n) (decimal-length 4 n (omega arith))
 
 -- a label is the form Lx
-same-label : (n : ℕ) → labelName n ≡ print.filled (print.ascii "Lx") n 0
+pub same-label : (n : ℕ) → labelName n ≡ print.filled (print.ascii "Lx") n 0
 unfolding print.filled print.filledSign
 same-label n = rw (same-decimal n, append-nil (print.decimal n))
 
@@ -65,14 +65,14 @@ module _ (es : List (List ℕ)) (r : Rec) (p : ℕ) where
     number h = rw (ne-eqb _ _ e, eq-eqb _ _ h) (same-decimal (r .x))
 
     module _ (f : ¬ (p ≡ k)) where
-      pub label : p ≡ s → writtenSign es r p ≡ print.filled (print.ascii "Lx") (r .x) 0
+      pub label : p ≡ s → writtenSign es r p ≡ labelName (r .x)
       unfolding writtenSign
-      label h = rw (ne-eqb _ _ e, ne-eqb _ _ f, eq-eqb _ _ h) (same-label (r .x))
+      label h = rw (ne-eqb _ _ e, ne-eqb _ _ f, eq-eqb _ _ h)
 
       module _ (g : ¬ (p ≡ s)) where
-        pub second : p ≡ t → writtenSign es r p ≡ print.filled (print.ascii "Lx") (r .y) 0
+        pub second : p ≡ t → writtenSign es r p ≡ labelName (r .y)
         unfolding writtenSign
-        second h = rw (ne-eqb _ _ e, ne-eqb _ _ f, ne-eqb _ _ g, eq-eqb _ _ h) (same-label (r .y))
+        second h = rw (ne-eqb _ _ e, ne-eqb _ _ f, ne-eqb _ _ g, eq-eqb _ _ h)
 
         pub other : ¬ (p ≡ t) → writtenSign es r p ≡ p ∷ []
         unfolding writtenSign

@@ -16,7 +16,7 @@ ghost use lib.Dec.{leb};
 ghost use Rattle.rules.specs.Record.{rec, records};
 ghost use Rattle.text.specs.Bytes.{ascii};
 ghost use Rattle.text.specs.Names.{entries, nameOf};
-ghost use Rattle.text.specs.Writing.{writtenSign, formOf, written, textOf};
+ghost use Rattle.text.specs.Writing.{labelName, writtenSign, formOf, written, textOf};
 ghost use Rattle.print.specs.Printing.{Printed};
 
 fn entry_start(e: u16) -> usize
@@ -40,7 +40,14 @@ fn put_name(names: &[u8], e: u16, text: &mut [u8]) -> usize
     put_word(&names[from..from + n], text)
 }
 
-// A sign of a form: a name, a number, a label as L and its number, or itself.
+// A label: L and its number.
+fn put_label(n: u16, text: &mut [u8]) -> usize
+    ensures { λ r. ⌜ Printed (labelName n) (now (text .entry)) (now (text .exit)) r ⌝ }
+{
+    put_form(b"Lx", n as usize, 0, text)
+}
+
+// A sign of a form: a name, a number, a label, or itself.
 fn put_sign(names: &[u8], p: u8, kind: u8, x: u16, y: u16, text: &mut [u8]) -> usize
     ensures { λ r. ⌜ Printed (writtenSign (entries (now (names .entry))) (rec kind x y) p) (now (text .entry)) (now (text .exit)) r ⌝ }
 {
@@ -51,10 +58,10 @@ fn put_sign(names: &[u8], p: u8, kind: u8, x: u16, y: u16, text: &mut [u8]) -> u
         return put_number(x as usize, text);
     }
     if p == b's' {
-        return put_form(b"Lx", x as usize, 0, text);
+        return put_label(x, text);
     }
     if p == b't' {
-        return put_form(b"Lx", y as usize, 0, text);
+        return put_label(y, text);
     }
     if text.len() == 0 {
         return 0;

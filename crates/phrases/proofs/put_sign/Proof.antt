@@ -22,14 +22,14 @@ put-sign-spec =
     (λ c. print-as (name _ _ _ (c .before .before .before .before .if1 .taken)) (c .before .before .put-name .ensures))
     (λ c κs. search needs) (λ c. search needs)
     (λ c. print-as (number _ _ _ (c .before .before .before .before .before .if1 .left) (c .before .before .before .before .if2 .taken)) (c .before .before .put-number .ensures))
-    (λ c. search needs) (λ c κs. search needs) (λ c. search needs)
+    (λ c κs. search needs) (λ c. search needs)
     (λ c.
-    let d = c .before .before .before .before .before in
-    print-as (label _ _ _ (d .before .before .if1 .left) (d .before .if2 .left) (d .if3 .taken)) (c .before .before .put-form .ensures))
-    (λ c. search needs) (λ c κs. search needs) (λ c. search needs)
+    let d = c .before .before .before .before in
+    print-as (label _ _ _ (d .before .before .if1 .left) (d .before .if2 .left) (d .if3 .taken)) (c .before .before .put-label .ensures))
+    (λ c κs. search needs) (λ c. search needs)
     (λ c.
-    let d = c .before .before .before .before .before in
-    print-as (second _ _ _ (d .before .before .before .if1 .left) (d .before .before .if2 .left) (d .before .if3 .left) (d .if4 .taken)) (c .before .before .put-form2 .ensures))
+    let d = c .before .before .before .before in
+    print-as (second _ _ _ (d .before .before .before .if1 .left) (d .before .before .if2 .left) (d .before .if3 .left) (d .if4 .taken)) (c .before .before .put-label2 .ensures))
     (λ c. print-as (itself (c .before)) (no-byte _ _ (c .if5 .taken)))
     (λ c. omega arith) (λ c. search needs)
     (λ c. print-as (itself (c .before)) (byte _ _ (c .if5 .left))))
