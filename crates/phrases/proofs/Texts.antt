@@ -18,6 +18,7 @@ use Rattle.text.specs.Bytes.{ascii}
 use Rattle.text.specs.Writing.{written, furtherOnes, textOf}
 use Rattle.records.specs.Reading.{recAt}
 use Rattle.records.proofs.Writing.{rec-drop}
+use Rattle.print.specs.Text as print
 use Rattle.print.specs.Printing.{Printed}
 use Rattle.print.proofs.Printing.{print-none, print-as}
 
@@ -34,7 +35,8 @@ joint i = cond (leb i 1) [] (ascii "; ")
 pub no-joint : (i : ℕ) → i ≤ 1 → joint i ≡ []
 no-joint i h = rw (le-leb i 1 h)
 
-pub a-joint : (i : ℕ) → 1 < i → joint i ≡ ascii "; "
+pub a-joint : (i : ℕ) → 1 < i → joint i ≡ print.filled (print.ascii "; ") 0 0
+unfolding print.filled print.filledSign
 a-joint i h = rw (lt-leb i 1 h)
 
 -- What is left of a text behind i instructions.

@@ -104,7 +104,7 @@ fn put_joint(i: usize, text: &mut [u8]) -> usize
     if i <= 1 {
         return 0;
     }
-    put_word(b"; ", text)
+    put_form(b"; ", 0, 0, text)
 }
 
 // The text of a routine, each instruction into the unwritten rest.

@@ -10,4 +10,4 @@ put-joint-spec =
     (tie.spec
     (λ c. print-as (no-joint _ (c .if1 .taken)) (print-none _))
     (λ c. search needs) (λ c κs. search needs) (λ c. search needs)
-    (λ c. print-as (a-joint _ (c .before .before .before .before .before .if1 .left)) (c .before .before .put-word .ensures)))
+    (λ c. print-as (a-joint _ (c .before .before .before .before .before .if1 .left)) (c .before .before .put-form .ensures)))
