@@ -11,9 +11,9 @@ use lib.ListN.{length, getD, take, drop, set, length-set, length-map}
 use lib.Seq.{drop-cons, getD-take, length-take-le, take-suc-set, getD-set-same, getD-set-other}
 use borrow.Author.Tests.{eq-eqb, ne-eqb, eqb-true, eqb-false, lt-ltb, le-ltb}
 use Rattle.text.specs.Names.{nameAt, same, placeFrom, placeOf, labelOf, withLabel}
-use Rattle.text.proofs.Tests.{by-test, cond-has}
+use Rattle.text.proofs.Tests.{cond-has}
 use Rattle.label_numbers.specs.Labels.{labelsOf}
-use Rattle.reader.specs.Labels.{Places, Labelled}
+use Rattle.reader.specs.Labels.{Labelled}
 
 -- a place is one of those that were looked at
 pub place-within : (u : List ℕ) (i : ℕ) (us : List (List ℕ)) → placeFrom (suc i) u us ≤ i + length us
@@ -26,7 +26,7 @@ map-snoc : (g : ℕ → List ℕ) (xs : List ℕ) (y : ℕ) → map g (xs ++ (y 
 map-snoc g [] y = refl
 map-snoc g (x ∷ xs) y = ap (λ r. g x ∷ r) (map-snoc g xs y)
 
-module _ (w f : List ℕ) (c at i : ℕ) (le : c ≤ 999) (full : length f ≡ 999) (places : Places w f) (e : i ≡ placeOf (nameAt w at) (labelsOf w c f)) where
+module _ (w f : List ℕ) (c at i : ℕ) (le : c ≤ 999) (full : length f ≡ 999) (e : i ≡ placeOf (nameAt w at) (labelsOf w c f)) where
   many : length (labelsOf w c f) ≡ c
   many = length-map (take c f) (nameAt w) ∙ length-take-le c f (omega arith)
 
@@ -37,7 +37,6 @@ module _ (w f : List ℕ) (c at i : ℕ) (le : c ≤ 999) (full : length f ≡ 9
     small = omega (arith, e, many, place-within (nameAt w at) 0 (labelsOf w c f));
     few = le;
     kept = λ _. rw (← e, ne-eqb i 0 n);
-    places = places;
     full = full;
   }
 
@@ -48,19 +47,15 @@ module _ (w f : List ℕ) (c at i : ℕ) (le : c ≤ 999) (full : length f ≡ 9
     small = omega arith;
     few = le;
     kept = λ o. absurd (o refl);
-    places = places;
     full = full;
   }
 
-  pub label-new : i ≡ 0 → (c ≡ 999 → ⊥) → at ≤ length w → Labelled w f c at (record { number = c + 1; count = c + 1 }) (set f c at)
+  pub label-new : i ≡ 0 → (c ≡ 999 → ⊥) → Labelled w f c at (record { number = c + 1; count = c + 1 }) (set f c at)
   unfolding labelOf withLabel
-  label-new z n l = record {
+  label-new z n = record {
     number = rw (← e, eq-eqb i 0 z, many, lt-ltb c 999 (omega (arith, n)), add-one c);
     small = omega (arith, n);
     few = omega (arith, n);
     kept = λ _. rw (← e, eq-eqb i 0 z, add-one c) (ap (map (nameAt w)) (take-suc-set f c at (omega (arith, n))) ∙ map-snoc (nameAt w) (take c f) at);
-    places = λ k. by-test (eqb k c)
-        (λ t. let d : k ≡ c = eqb-true k c t in rw (d, getD-set-same f c at 0 (omega (arith, n))) l)
-        (λ t. rw (getD-set-other f c k at 0 (eqb-false k c t)) (places k));
     full = rw (length-set f c at) full;
   }

@@ -8,7 +8,7 @@ use mathlib.Core.List.{List, [], _∷_, _++_}
 use Prim.Native.Nat.{ℕ, zero, suc, _+_, _-_, _≤_, _<_}
 use native.Mathlib.Omega.{arith}
 use lib.Dec.{ltb}
-use lib.ListN.{length, getD, replicate, length-append}
+use lib.ListN.{length, length-append}
 use borrow.Author.Tests.{ne-eqb, eq-eqb, lt-ltb, le-ltb}
 use Rattle.rules.specs.Record.{Rec, rec}
 use Rattle.text.specs.declared.Sort.the-variants.{Blank}
@@ -17,7 +17,6 @@ use Rattle.text.specs.Bytes.{span}
 use Rattle.text.specs.Reading.{Next, made, bad, nextOf, reads, refused, onwards, readFrom, readText}
 use Rattle.reader.specs.declared.Step.the-variants.{Made, Bad}
 use Rattle.label_numbers.specs.Labels.{labelsOf}
-use Rattle.reader.specs.Labels.{Places}
 use Rattle.reader.specs.Steps.{Stepped}
 
 pub record Going (w : List ℕ) (es : List (List ℕ)) (at n c : ℕ) (p : List ℕ) (rs : List Rec) : Type 0 where
@@ -25,7 +24,6 @@ pub record Going (w : List ℕ) (es : List (List ℕ)) (at n c : ℕ) (p : List 
   pub few : n ≤ at
   pub labels : c ≤ 999
   pub full : length p ≡ 999
-  pub places : Places w p
   pub many : length rs ≡ n
   pub whole : readText w es ≡ readFrom (length w + 1 - n) w es at (labelsOf w c p) rs
 
@@ -37,14 +35,13 @@ module _ (w : List ℕ) (es : List (List ℕ)) where
   unfolding readText
   none e = rw (eq-eqb (span Blank w 0 (length w)) (length w) e)
 
-  pub start : (p : List ℕ) → (span Blank w 0 (length w) ≡ length w → ⊥) → length p ≡ 999 → Places w p → Going w es 0 0 0 p []
+  pub start : (p : List ℕ) → (span Blank w 0 (length w) ≡ length w → ⊥) → length p ≡ 999 → Going w es 0 0 0 p []
   unfolding readText
-  start p h n q = record {
+  start p h n = record {
     here = omega arith;
     few = omega arith;
     labels = omega arith;
     full = n;
-    places = q;
     many = refl;
     whole = let e : length w + 1 - 0 ≡ length w + 1 = omega arith in rw (ne-eqb (span Blank w 0 (length w)) (length w) h, e);
   }
@@ -71,14 +68,7 @@ module _ (w : List ℕ) (es : List (List ℕ)) where
         here = le;
         few = omega (arith, s .ahead .0, g .few);
         labels = s .ahead .2;
-        full = s .ahead .4;
-        places = s .ahead .3;
+        full = s .ahead .3;
         many = one-more rs (rec k x y) n (g .many);
         whole = turn (made (rec k x y) (labelsOf w d p′) e) (s .next) ∙ rw (le-ltb (length w) e le);
       }
-
--- a fresh array of places
-pub fresh-places : (w : List ℕ) (n k : ℕ) → getD (replicate n 0) k 0 ≤ length w
-fresh-places w zero k = omega arith
-fresh-places w (suc n) zero = omega arith
-fresh-places w (suc n) (suc k) = fresh-places w n k

@@ -27,7 +27,7 @@ use Rattle.reader.specs.declared.Step.{Step}
 use Rattle.reader.specs.declared.Step.the-variants.{Made, Bad}
 use Rattle.reader.specs.declared.Numbered.{Numbered}
 use Rattle.label_numbers.specs.Labels.{labelsOf}
-use Rattle.reader.specs.Labels.{Places, Labelled}
+use Rattle.reader.specs.Labels.{Labelled}
 use Rattle.reader.specs.Steps.{meant, settledStep, Sound, StepBy, StepsBy, Ahead, Stepped}
 use Rattle.reader.proofs.Labels.{place-within}
 
@@ -38,12 +38,12 @@ settled-meant w f x y c p =
     (λ h. by-test (eqb (f .form) 17) (λ g. rw (h, g)) (λ g. rw (h, g)))
     (λ h. rw h)
 
-settled-sound : (f : Fit) (x y c : ℕ) (w p : List ℕ) → c ≤ 999 → Places w p → length p ≡ 999 → Sound (settledStep f x y c) w f p
+settled-sound : (f : Fit) (x y c : ℕ) (p : List ℕ) → c ≤ 999 → length p ≡ 999 → Sound (settledStep f x y c) f p
 unfolding settledStep
-settled-sound f x y c w p le q n =
-    cond-has (λ r. Sound r w f p) (f .whole) (cond (eqb (f .form) 17) (Made 4 0 0 (f .far) c) (Made (f .form) x y (f .far) c)) (Bad (Text (f .far + 1)))
-    (λ h. cond-has (λ r. Sound r w f p) (eqb (f .form) 17) (Made 4 0 0 (f .far) c) (Made (f .form) x y (f .far) c)
-    (λ g. (h, refl, le, q, n)) (λ g. (h, refl, le, q, n)))
+settled-sound f x y c p le n =
+    cond-has (λ r. Sound r f p) (f .whole) (cond (eqb (f .form) 17) (Made 4 0 0 (f .far) c) (Made (f .form) x y (f .far) c)) (Bad (Text (f .far + 1)))
+    (λ h. cond-has (λ r. Sound r f p) (eqb (f .form) 17) (Made 4 0 0 (f .far) c) (Made (f .form) x y (f .far) c)
+    (λ g. (h, refl, le, n)) (λ g. (h, refl, le, n)))
     (λ h. tt)
 
 -- an action's number is at most the count of entries
@@ -56,29 +56,29 @@ module _ (w : List ℕ) (f : Fit) (c : ℕ) (le : c ≤ 999) where
   by-equal b e = record { next = b .next ∙ e; sound = b .sound }
 
   pub settled-steps : (x y : ℕ) → StepsBy (λ us. settled f x y us) w f c (settledStep f x y c)
-  settled-steps x y p q n = record { next = settled-meant w f x y c p; sound = settled-sound f x y c w p le q n }
+  settled-steps x y p n = record { next = settled-meant w f x y c p; sound = settled-sound f x y c p le n }
 
   module _ (es : List (List ℕ)) where
     pub action-zero : f .x ≡ 0 → StepsBy (λ us. withAction w es (f .x) (λ x. settled f x 0 us)) w f c (settledStep f 0 0 c)
     unfolding withAction
-    action-zero z p q n = by-equal (settled-steps 0 0 p q n) (rw (eq-eqb (f .x) 0 z))
+    action-zero z p n = by-equal (settled-steps 0 0 p n) (rw (eq-eqb (f .x) 0 z))
 
     module _ (z : f .x ≡ 0 → ⊥) (v : ℕ) (e : v ≡ actionOf es (nameAt w (f .x - 1))) where
       pub action-none : v ≡ 0 → StepsBy (λ us. withAction w es (f .x) (λ x. settled f x 0 us)) w f c (Bad (Name (f .x)))
       unfolding withAction
-      action-none o p q n = record { next = rw (ne-eqb (f .x) 0 z, ← e, eq-eqb v 0 o); sound = tt }
+      action-none o p n = record { next = rw (ne-eqb (f .x) 0 z, ← e, eq-eqb v 0 o); sound = tt }
 
       pub action-some : (v ≡ 0 → ⊥) → StepsBy (λ us. withAction w es (f .x) (λ x. settled f x 0 us)) w f c (settledStep f v 0 c)
       unfolding withAction
-      action-some o p q n = by-equal (settled-steps v 0 p q n) (rw (ne-eqb (f .x) 0 z, ← e, ne-eqb v 0 o))
+      action-some o p n = by-equal (settled-steps v 0 p n) (rw (ne-eqb (f .x) 0 z, ← e, ne-eqb v 0 o))
 
   pub number-zero : f .x ≡ 0 → StepsBy (λ us. withNumber w (f .x) (λ x. settled f x 0 us)) w f c (settledStep f 0 0 c)
   unfolding withNumber
-  number-zero z p q n = by-equal (settled-steps 0 0 p q n) (rw (eq-eqb (f .x) 0 z))
+  number-zero z p n = by-equal (settled-steps 0 0 p n) (rw (eq-eqb (f .x) 0 z))
 
   pub number-some : (f .x ≡ 0 → ⊥) → (v : ℕ) → v ≡ numberAt w (f .x - 1) → StepsBy (λ us. withNumber w (f .x) (λ x. settled f x 0 us)) w f c (settledStep f v 0 c)
   unfolding withNumber
-  number-some z v e p q n = by-equal (settled-steps v 0 p q n) (rw (ne-eqb (f .x) 0 z, ← e))
+  number-some z v e p n = by-equal (settled-steps v 0 p n) (rw (ne-eqb (f .x) 0 z, ← e))
 
 -- labels: on is what follows the label at place s
 module _ (w : List ℕ) (f : Fit) (c : ℕ) (p : List ℕ) (s : ℕ) (on : ℕ → List (List ℕ) → Next) where
@@ -97,10 +97,10 @@ module _ (w : List ℕ) (f : Fit) (c : ℕ) (p : List ℕ) (s : ℕ) (on : ℕ �
 
 -- one instruction, from the form that goes furthest and the letter of its names
 module _ (w : List ℕ) (es : List (List ℕ)) (p p′ : List ℕ) (c at : ℕ) (r : Step) (k : ℕ) (le : at ≤ length w) where
-  ahead-of : (f : Fit) → Inside w (at + span Blank w at (length w)) 17 f → (r : Step) → Sound r w f p′ → Ahead r w at p′
+  ahead-of : (f : Fit) → Inside w (at + span Blank w at (length w)) 17 f → (r : Step) → Sound r f p′ → Ahead r w at p′
   ahead-of f i (Made kind x y e d) h =
       let a : at + span Blank w at (length w) < f .far = i .ahead (h .0) in
-      (omega (arith, h .1), omega (arith, h .1, i .upto), h .2, h .3, h .4)
+      (omega (arith, h .1), omega (arith, h .1, i .upto), h .2, h .3)
   ahead-of f i (Bad why) h = tt
 
   stepped-best : letterOf (bestOf w (at + span Blank w at (length w)) .form) ≡ k

@@ -21,7 +21,7 @@ ghost use Rattle.text.specs.Names.{entries};
 ghost use Rattle.text.specs.Reading.{settled, withAction, withNumber, withLabelAt, withSecond, readText};
 ghost use Rattle.text.specs.Answers.{reading, bytesRead, Answered};
 ghost use Rattle.name_index.specs.Index.{Indexed};
-ghost use Rattle.reader.specs.Labels.{Places, Labelled};
+ghost use Rattle.reader.specs.Labels.{Labelled};
 ghost use Rattle.reader.specs.Steps.{settledStep, StepBy, StepsBy, Stepped};
 ghost use Rattle.reader.specs.Pages.{Keeps, ReadTo, HandedOn};
 
@@ -39,8 +39,7 @@ pub enum Step {
 
 // The label at `at`: a new one is kept, but for the thousandth.
 fn label(s: &[u8], firsts: &mut [usize], count: usize, at: usize) -> Numbered
-    requires { ⌜ (count ≤ 999) × (length (now firsts) ≡ 999) × (at ≤ length (now s)) ⌝ }
-    requires { ⌜ Places (now s) (now firsts) ⌝ }
+    requires { ⌜ (count ≤ 999) × (length (now firsts) ≡ 999) ⌝ }
     ensures { λ r. ⌜ Labelled (now (s .entry)) (now (firsts .entry)) count at r (now (firsts .exit)) ⌝ }
 {
     let number = label_number(s, firsts, count, at);
@@ -102,8 +101,7 @@ fn with_number(f: Fit, s: &[u8], count: usize) -> Step
 
 // The second label, where the first has number x.
 fn with_second(f: Fit, s: &[u8], firsts: &mut [usize], count: usize, x: u16) -> Step
-    requires { ⌜ (f .form ≤ 17) × (f .far ≤ length (now s) + 1) × (f .y ≤ length (now s)) × (count ≤ 999) × (length (now firsts) ≡ 999) ⌝ }
-    requires { ⌜ Places (now s) (now firsts) ⌝ }
+    requires { ⌜ (f .form ≤ 17) × (f .far ≤ length (now s) + 1) × (count ≤ 999) × (length (now firsts) ≡ 999) ⌝ }
     ensures { λ r. ⌜ StepBy (withSecond (now (s .entry)) f x) (now (s .entry)) f (now (firsts .entry)) count r (now (firsts .exit)) ⌝ }
 {
     let p = f.y;
@@ -119,8 +117,7 @@ fn with_second(f: Fit, s: &[u8], firsts: &mut [usize], count: usize, x: u16) -> 
 
 // A form with labels.
 fn with_labels(f: Fit, s: &[u8], firsts: &mut [usize], count: usize) -> Step
-    requires { ⌜ (f .form ≤ 17) × (f .far ≤ length (now s) + 1) × (f .x ≤ length (now s)) × (f .y ≤ length (now s)) × (count ≤ 999) × (length (now firsts) ≡ 999) ⌝ }
-    requires { ⌜ Places (now s) (now firsts) ⌝ }
+    requires { ⌜ (f .form ≤ 17) × (f .far ≤ length (now s) + 1) × (count ≤ 999) × (length (now firsts) ≡ 999) ⌝ }
     ensures { λ r. ⌜ StepBy (λ us. withLabelAt (now (s .entry)) us (f .x) (λ x us′. withSecond (now (s .entry)) f x us′)) (now (s .entry)) f (now (firsts .entry)) count r (now (firsts .exit)) ⌝ }
 {
     let p = f.x;
@@ -145,7 +142,6 @@ fn next(
     at: usize,
 ) -> Step
     requires { ⌜ (at ≤ length (now s)) × (count ≤ 999) × (length (now firsts) ≡ 999) × (length (now l) < 16000) ⌝ }
-    requires { ⌜ Places (now s) (now firsts) ⌝ }
     requires { ⌜ Indexed (entries (now l)) (now heads) (now links) ⌝ }
     ensures { λ r. ⌜ Stepped (now (s .entry)) (entries (now (l .entry))) (now (firsts .entry)) count at r (now (firsts .exit)) ⌝ }
 {

@@ -1,3 +1,3 @@
-pub mod Table
 pub mod Signs
+pub mod Table
 pub mod Once

@@ -25,6 +25,6 @@ end-of-spec =
     (λ c κs. search needs)
     (λ c. let a = c .before .before .before .before .before .args in
     omega (arith, byte-there (a .s .now) (a .at + c .before .before .before .span-of .result) (λ z. omega (arith, c .if2 .taken, c .before .byte-at .ensures ∙ z))))
-    (λ c. rw (← c .before .before .before .span-of .ensures, ne-eqb _ _ (c .before .before .if1 .left), ← c .before .byte-at .ensures, eq-eqb _ _ (c .if2 .taken)))
+    (λ c. rw (← c .before .before .before .span-of .ensures, ne-eqb _ _ (c .before .before .if1 .left), ← c .before .byte-at .ensures, eq-eqb _ 59 (c .if2 .taken)))
     (λ c κs. search needs)
-    (λ c. c .stuck .ensures ∙ rw (← c .before .before .before .before .span-of .ensures, ne-eqb _ _ (c .before .before .before .if1 .left), ← c .before .before .byte-at .ensures, ne-eqb _ _ (c .before .if2 .left))))
+    (λ c. c .stuck .ensures ∙ rw (← c .before .before .before .before .span-of .ensures, ne-eqb _ _ (c .before .before .before .if1 .left), ← c .before .before .byte-at .ensures, ne-eqb _ 59 (c .before .if2 .left))))

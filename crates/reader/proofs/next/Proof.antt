@@ -30,14 +30,14 @@ unfolding named
 returns c =
     let s = c .before .before .before .before .before .before .before .before .before .before in let a = s .args in let k = c .before .before .letter-of in
     stepped (a .s .now) (entries (a .l .now)) (a .firsts .now) (a .firsts .now) (a .count) (a .at) (c .with-action .result) (k .result) (omega arith) (c .before .before .before .best .result) (found (c .before .before .before)) (sym (k .ensures)) _
-    (c .with-action .ensures (a .firsts .now) (s .pre .1 .0) (omega arith)) (rw (eq-eqb _ 97 (c .before .if1 .taken)))
+    (c .with-action .ensures (a .firsts .now) (omega arith)) (rw (eq-eqb _ 97 (c .before .if1 .taken)))
 
 returns-2 : tie.Need-returns-2
 unfolding named
 returns-2 c =
     let s = c .before .before .before .before .before .before .before .before .before .before .before in let a = s .args in let k = c .before .before .before .letter-of in
     stepped (a .s .now) (entries (a .l .now)) (a .firsts .now) (a .firsts .now) (a .count) (a .at) (c .with-number .result) (k .result) (omega arith) (c .before .before .before .before .best .result) (found (c .before .before .before .before)) (sym (k .ensures)) _
-    (c .with-number .ensures (a .firsts .now) (s .pre .1 .0) (omega arith)) (rw (ne-eqb _ 97 (c .before .before .if1 .left), eq-eqb _ 107 (c .before .if2 .taken)))
+    (c .with-number .ensures (a .firsts .now) (omega arith)) (rw (ne-eqb _ 97 (c .before .before .if1 .left), eq-eqb _ 107 (c .before .if2 .taken)))
 
 returns-3 : tie.Need-returns-3
 unfolding named
@@ -52,7 +52,7 @@ returns-4 c =
     let s = c .before .before .before .before .before .before .before .before .before .before .before .before in let a = s .args in let k = c .before .before .before .before .letter-of in
     rw (c .settle .ensures)
     (stepped (a .s .now) (entries (a .l .now)) (a .firsts .now) (a .firsts .now) (a .count) (a .at) _ (k .result) (omega arith) (c .before .before .before .before .before .best .result) (found (c .before .before .before .before .before)) (sym (k .ensures)) _
-    (settled-steps (a .s .now) (c .before .before .before .before .before .best .result) (a .count) (omega arith) 0 0 (a .firsts .now) (s .pre .1 .0) (omega arith))
+    (settled-steps (a .s .now) (c .before .before .before .before .before .best .result) (a .count) (omega arith) 0 0 (a .firsts .now) (omega arith))
     (rw (ne-eqb _ 97 (c .before .before .before .if1 .left), ne-eqb _ 107 (c .before .before .if2 .left), ne-eqb _ 115 (c .before .if3 .left))))
 
 pub next-spec : {M : Type 1} → statement M
@@ -63,11 +63,11 @@ next-spec =
     (λ c. omega (arith, within c))
     (λ c κs. search needs)
     (λ c κs. search needs)
-    (λ c κs. let i = inside (c .before .before) in ((i .number, i .upto, omega arith, omega arith), c .before .before .before .before .before .before .before .before .before .pre .1 .1))
+    (λ c κs. let i = inside (c .before .before) in ((i .number, i .upto, omega arith, omega arith), c .before .before .before .before .before .before .before .before .before .pre .1))
     returns
     (λ c κs. let i = inside (c .before .before .before) in (i .number, i .upto, omega arith))
     returns-2
-    (λ c κs. let i = inside (c .before .before .before .before .before) in ((i .number, i .upto, i .x, i .y, omega arith, omega arith), c .before .before .before .before .before .before .before .before .before .before .before .before .pre .1 .0))
+    (λ c κs. let i = inside (c .before .before .before .before .before) in (i .number, i .upto, omega arith, omega arith))
     (λ c. search needs)
     returns-3
     (λ c κs. let i = inside (c .before .before .before .before) in (i .number, omega (arith, i .upto)))

@@ -13,7 +13,7 @@ use Rattle.reader.specs.declared.Step.{Step}
 use Rattle.reader.specs.declared.Step.the-variants.{Made}
 use Rattle.reader.specs.Steps.{Stepped}
 use Rattle.reader.specs.Pages.{Kept}
-use Rattle.reader.proofs.Loop.{Going, one-more, none, start, go-on, go-end, go-bad, fresh-places}
+use Rattle.reader.proofs.Loop.{Going, one-more, none, start, go-on, go-end, go-bad}
 use Rattle.reader.proofs.Pages.{read-to, read-bad}
 use Rattle.reader.proofs.read_all.Statement.{statement}
 use Rattle.reader.proofs.read_all.Tie as tie
@@ -41,7 +41,7 @@ loop-holds : tie.Need-loop-holds Inv-loop μ-loop
 loop-holds c =
     let a = c .before .before .before .before .before .before .before .before .before .before .args in let i = indexed (c .before .before) in (
       [],
-      start (a .s .now) (entries (a .l .now)) (replicate 999 0) (λ e. c .before .before .before .before .before .if1 .left (c .before .before .before .before .before .before .span-of .ensures ∙ e)) (length-replicate {A = ℕ} 999 0) (fresh-places (a .s .now) 999),
+      start (a .s .now) (entries (a .l .now)) (replicate 999 0) (λ e. c .before .before .before .before .before .if1 .left (c .before .before .before .before .before .before .span-of .ensures ∙ e)) (length-replicate {A = ℕ} 999 0),
       (λ _. refl),
       refl,
       c .before .heads2 .given,
@@ -51,7 +51,7 @@ loop-holds c =
     )
 
 next-requires : tie.Need-next-requires Inv-loop μ-loop
-next-requires c κs = let l = c .before .before .before .loop .inv in let g = l .1 in ((g .here, g .labels, g .full, omega arith), (g .places, l .6))
+next-requires c κs = let l = c .before .before .before .loop .inv in let g = l .1 in ((g .here, g .labels, g .full, omega arith), l .6)
 
 -- the instruction made
 abbrev step : (c : tie.After-known-told Inv-loop μ-loop) → Step
