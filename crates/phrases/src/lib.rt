@@ -1,6 +1,5 @@
 // The text of a routine in a lent buffer: each writer puts as much of its text as fits at the start of the part lent, and answers how many
 // bytes.
-use signs::sign;
 use names::name_size;
 use print::put_form;
 use print::put_number;
@@ -8,6 +7,7 @@ use print::put_word;
 use records::kind_at;
 use records::x_at;
 use records::y_at;
+use signs::sign;
 ghost use mathlib.Core.Path.{_≡_};
 ghost use mathlib.Core.Bool.{cond};
 ghost use mathlib.Core.List.{[]};
