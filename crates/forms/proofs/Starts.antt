@@ -10,12 +10,11 @@ use Prim.Native.Nat.{ℕ, zero, suc, _+_, _≤_, _<_}
 use native.Mathlib.Omega.{arith}
 use lib.Dec.{T, eqb}
 use lib.ListN.{length, getD}
-use borrow.Author.Tests.{eqb-true, eqb-false, ne-eqb, le-ltb}
+use borrow.Author.Tests.{eqb-true, eqb-false, ne-eqb}
 use Rattle.text.specs.declared.Sort.the-variants.{Named}
-use Rattle.text.specs.declared.Took.{Took}
-use Rattle.text.specs.declared.Took.the-variants.{On, Off}
+use Rattle.text.specs.declared.Took.the-variants.{Off}
 use Rattle.text.specs.declared.Fit.{Fit}
-use Rattle.text.specs.Bytes.{byteAt, digit, letter, inSort, span}
+use Rattle.text.specs.Bytes.{byteAt, digit, letter, inSort}
 use Rattle.text.specs.Forms.{a, k, s, t, partOf, forms, signsOf, takeRun, takePart, takeSign, ending, fit, follow, fitOf, further, bestTo, bestOf}
 use Rattle.forms.specs.Starts.{startsWith}
 use Rattle.forms.specs.Families.{ofTests, ofEnds}

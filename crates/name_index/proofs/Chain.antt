@@ -10,11 +10,11 @@ use mathlib.Core.Bool.{Bool, true, false, cond}
 use mathlib.Core.List.{List, [], _∷_}
 use Prim.Native.Nat.{ℕ, zero, suc, _+_, _*_, _-_, _/_, _%_, _≤_, _<_}
 use native.Mathlib.Omega.{arith}
-use lib.ListN.{length, getD, set, take, drop, replicate, length-set, length-replicate, drop-of-length-le}
+use lib.ListN.{length, getD, set, take, drop, length-set, drop-of-length-le}
 use lib.Seq.{take-all, drop-cons, getD-set-same, getD-set-other}
-use lib.Dec.{eqb, leb, ltb}
+use lib.Dec.{eqb, ltb}
 use borrow.Author.Tests.{eqb-true, eqb-false, eq-eqb, ne-eqb, le-leb, lt-leb, lt-ltb, le-ltb}
-use Rattle.text.specs.Names.{same, placeFrom, placeOf, entry, entriesOf, entries}
+use Rattle.text.specs.Names.{same, placeFrom, entry, entriesOf, entries}
 use Rattle.text.proofs.Tests.{by-test}
 use Rattle.names.proofs.Same.{same-is}
 use Rattle.names.proofs.Entries.{entry-of}

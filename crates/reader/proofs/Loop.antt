@@ -2,10 +2,10 @@
 --     Going                    n instructions were read, to the records rs; the next is looked for at `at`
 --     none, start              a text without instructions, and the first instruction
 --     go-on, go-end, go-bad    an instruction that is not the last, the last, a refusal
-use mathlib.Core.Path.{_≡_, refl, sym, ap, _∙_}
+use mathlib.Core.Path.{_≡_, refl, ap, _∙_}
 use mathlib.Core.Bool.{cond}
 use mathlib.Core.List.{List, [], _∷_, _++_}
-use Prim.Native.Nat.{ℕ, zero, suc, _+_, _-_, _≤_, _<_}
+use Prim.Native.Nat.{ℕ, suc, _+_, _-_, _≤_, _<_}
 use native.Mathlib.Omega.{arith}
 use lib.Dec.{ltb}
 use lib.ListN.{length, length-append}
@@ -14,7 +14,7 @@ use Rattle.rules.specs.Record.{Rec, rec}
 use Rattle.text.specs.declared.Sort.the-variants.{Blank}
 use Rattle.text.specs.declared.TextRefusal.{TextRefusal}
 use Rattle.text.specs.Bytes.{span}
-use Rattle.text.specs.Reading.{Next, made, bad, nextOf, Reading, reads, refused, onwards, readFrom, readText}
+use Rattle.text.specs.Reading.{Next, made, bad, nextOf, reads, refused, onwards, readFrom, readText}
 use Rattle.reader.specs.declared.Step.the-variants.{Made, Bad}
 use Rattle.labels.specs.Labels.{labelsOf}
 use Rattle.reader.specs.Steps.{Stepped}

@@ -3,17 +3,16 @@ use mathlib.Core.Path.{_≡_, refl, sym, ap, _∙_, subst}
 use mathlib.Core.List.{List, [], _∷_, _++_}
 use Prim.Native.Nat.{ℕ, _+_, _*_, _-_, _≤_, _<_}
 use native.Mathlib.Omega.{arith}
-use lib.ListN.{length, drop, length-take, length-drop}
+use lib.ListN.{length, length-take, length-drop}
 use borrow.Rule.Slice.PartMut.{putMid}
-use Rattle.rules.specs.Record.{Rec, bytesOf}
+use Rattle.rules.specs.Record.{Rec}
 use Rattle.rules.proofs.Records.{bytes-length}
 use Rattle.records.specs.Writing.{Put, Wrote}
 use Rattle.records.proofs.Writing.{rest, one, more}
-use Rattle.text.specs.declared.TextVerdict.{TextVerdict}
 use Rattle.text.specs.declared.TextVerdict.the-variants.{Done, Refused}
 use Rattle.text.specs.declared.TextRefusal.{TextRefusal}
 use Rattle.text.specs.Reading.{Reading, reads, refused}
-use Rattle.reader.specs.Pages.{Kept, Keeps, counted, Held, ReadTo}
+use Rattle.reader.specs.Pages.{Kept, Keeps, ReadTo}
 use Rattle.reader.proofs.Loop.{one-more}
 
 -- the record in its place

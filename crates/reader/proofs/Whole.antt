@@ -1,7 +1,6 @@
 -- The reader's answer by its tests.
-use mathlib.Core.Path.{_≡_, refl, sym, ap, _∙_, subst}
-use mathlib.Core.Bool.{Bool, true, false, cond, not, _||_}
-use mathlib.Core.List.{List, [], _∷_, _++_}
+use mathlib.Core.Path.{_≡_, refl, sym, ap, _∙_}
+use mathlib.Core.List.{List, _++_}
 use Prim.Native.Nat.{ℕ, _+_, _*_, _-_, _/_, _%_, _≤_, _<_}
 use native.Mathlib.Omega.{arith}
 use lib.ListN.{length, take, drop}
@@ -18,8 +17,8 @@ use Rattle.text.specs.declared.TextVerdict.{TextVerdict}
 use Rattle.text.specs.declared.TextVerdict.the-variants.{Done, Refused}
 use Rattle.text.specs.Names.{entries, listFault}
 use Rattle.text.specs.Reading.{Reading, reads, refused, readText}
-use Rattle.text.specs.Answers.{fits, reading, recordsRead, filled, Answered, bytesRead}
-use Rattle.reader.specs.Pages.{Kept, counted, ReadTo}
+use Rattle.text.specs.Answers.{fits, reading, recordsRead, filled, Answered}
+use Rattle.reader.specs.Pages.{Kept, ReadTo}
 
 -- an answer that is the definition's, and writes nothing where it is a refusal
 pub refuses : {v : TextVerdict} {u o : List ℕ} (r : TextRefusal) → v ≡ Refused r → Answered v u o (Refused r) o

@@ -1,17 +1,16 @@
-use mathlib.Core.Path.{_≡_, refl, sym, ap, _∙_, subst}
+use mathlib.Core.Path.{_≡_, refl, sym, _∙_, subst}
 use mathlib.Core.List.{List, [], _∷_, _++_}
-use Prim.Native.Nat.{ℕ, _+_, _*_, _-_, _≤_, _<_}
+use Prim.Native.Nat.{ℕ, _+_, _-_, _<_}
 use native.Mathlib.Omega.{arith}
-use lib.ListN.{length, drop, replicate, length-replicate}
+use lib.ListN.{length, replicate, length-replicate}
 use borrow.Author.Needs.{needs}
-use Rattle.rules.specs.Record.{Rec, rec, bytesOf}
+use Rattle.rules.specs.Record.{Rec, rec}
 use Rattle.text.specs.Names.{entries}
-use Rattle.text.specs.Reading.{readText}
 use Rattle.name_index.specs.Index.{Indexed}
 use Rattle.name_index.proofs.Chain.{index-finds}
 use Rattle.name_index.proofs.Bytes.{zeros}
 use Rattle.reader.specs.declared.Step.{Step}
-use Rattle.reader.specs.declared.Step.the-variants.{Made, Bad}
+use Rattle.reader.specs.declared.Step.the-variants.{Made}
 use Rattle.reader.specs.Steps.{Stepped}
 use Rattle.reader.specs.Pages.{Kept}
 use Rattle.reader.proofs.Loop.{Going, one-more, none, start, go-on, go-end, go-bad}
