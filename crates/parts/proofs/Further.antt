@@ -3,7 +3,7 @@
 --     least               a form is followed at least to where it starts
 --     Plain               a sign that stands for itself, and neither ends an instruction nor is free around it
 --     took-on, took-off   one sign that is there, or not
---     name-reach, number-reach     a name or a number that is there takes a byte and stays in the text
+--     NameTo, name-to, number-reach     a name or a number that is there takes a byte and stays in the text
 --     name-least          a name is followed at least to where it starts, wherever that is
 --     inside              a plain sign is in the text
 --     there, missing      one that is there, or not
@@ -56,6 +56,12 @@ pub record Plain (c : ℕ) : Type 0 where
   pub inner : eqb c 59 ≡ false
   pub some : eqb c 0 ≡ false
 
+-- a name is there, and ends at e
+pub record NameTo (w : List ℕ) (at e : ℕ) : Type 0 where
+  pub taken : takeRun Named 16 w at ≡ On e
+  pub ahead : at < e
+  pub within : e ≤ length w
+
 module _ (w : List ℕ) where
   pub least : (i : ℕ) (ps : List ℕ) (e x y : ℕ) → T (positive ps) → e ≤ length w → e ≤ follow i ps w e x y .far
   unfolding follow ending
@@ -89,9 +95,9 @@ module _ (w : List ℕ) where
         (λ t. let lt = ltb-true at (length w) t in subst (Reach w at) h (r (omega arith)))
         (λ t. absurd (let o = out (ltb-false at (length w) t) in let z : _≡_ {A = ℕ} 0 1 = cc in omega arith))
 
-  pub name-reach : (at e : ℕ) → takeRun Named 16 w at ≡ On e → (at < e) × (e ≤ length w)
+  pub name-to : (at e : ℕ) → takeRun Named 16 w at ≡ On e → NameTo w at e
   unfolding takePart partOf
-  name-reach at e h = reach-by Named 16 at e h (take-reach w at 97 (omega arith))
+  name-to at e h = let r = reach-by Named 16 at e h (take-reach w at 97 (omega arith)) in record { taken = h; ahead = r .0; within = r .1 }
 
   pub number-reach : (at e : ℕ) → takeRun Digit 4 w at ≡ On e → (at < e) × (e ≤ length w)
   unfolding takePart partOf

@@ -1,15 +1,13 @@
 -- A label looked up, and a new one kept.
 --     label-old, label-none, label-new     one that stood before, the thousandth, a new one
 use mathlib.Core.Path.{_≡_, refl, ap, _∙_}
-use mathlib.Core.Bool.{true, false}
 use mathlib.Core.List.{List, [], _∷_, _++_, map}
-use Prim.Native.Nat.{ℕ, suc, _+_, _-_, _≤_, _<_}
+use Prim.Native.Nat.{ℕ, suc, _+_, _-_, _≤_}
 use native.Mathlib.Numerals.{add-one}
 use native.Mathlib.Omega.{arith}
-use lib.Dec.{eqb}
-use lib.ListN.{length, getD, take, drop, set, length-set, length-map}
-use lib.Seq.{drop-cons, getD-take, length-take-le, take-suc-set, getD-set-same, getD-set-other}
-use borrow.Author.Tests.{eq-eqb, ne-eqb, eqb-true, eqb-false, lt-ltb, le-ltb}
+use lib.ListN.{length, take, set, length-set, length-map}
+use lib.Seq.{length-take-le, take-suc-set}
+use borrow.Author.Tests.{eq-eqb, ne-eqb, lt-ltb, le-ltb}
 use Rattle.text.specs.Names.{nameAt, same, placeFrom, placeOf, labelOf, withLabel}
 use Rattle.text.proofs.Tests.{cond-has}
 use Rattle.label_numbers.specs.Labels.{labelsOf}

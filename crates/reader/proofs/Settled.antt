@@ -7,17 +7,17 @@
 use mathlib.Core.Path.{_≡_, refl, sym, _∙_, subst}
 use mathlib.Core.Bool.{cond}
 use mathlib.Core.List.{List}
-use Prim.Native.Nat.{ℕ, zero, suc, _+_, _-_, _/_, _≤_, _<_}
+use Prim.Native.Nat.{ℕ, _+_, _-_, _/_, _≤_, _<_}
 use native.Mathlib.Omega.{arith}
 use lib.Dec.{eqb}
-use lib.ListN.{length, take, drop}
+use lib.ListN.{length}
 use borrow.Author.Tests.{eq-eqb, ne-eqb}
 use Rattle.text.specs.declared.Sort.the-variants.{Blank}
 use Rattle.text.specs.declared.Fit.{Fit}
 use Rattle.text.specs.declared.TextRefusal.the-variants.{Text, Name}
 use Rattle.text.specs.Bytes.{span}
 use Rattle.text.specs.Forms.{bestOf, letterOf}
-use Rattle.text.specs.Names.{nameAt, numberAt, same, placeFrom, entriesOf, entries, padded, actionOf}
+use Rattle.text.specs.Names.{nameAt, numberAt, entries, padded, actionOf}
 use Rattle.text.specs.Reading.{Next, formRecord, settled, withAction, withNumber, withLabelAt, named, nextOf}
 use Rattle.text.proofs.Tests.{by-test, cond-has}
 use Rattle.text.proofs.Reach.{span-within}

@@ -1,21 +1,15 @@
 -- The tables of signs and of letters are the definition's: each computed once at all its entries.
---     column, sign-column     a table of all forms, and that of one sign of each
---     no-form, no-sign        past the forms there are no signs, nor past the eighth sign of one
---     up                      a number that is not k is above it
-use mathlib.Core.Path.{_≡_, refl, sym, ap, _∙_}
+use mathlib.Core.Path.{_≡_, refl, ap, _∙_}
 use mathlib.Core.Bool.{cond}
 use mathlib.Core.List.{List, [], _∷_, map}
-use Prim.Native.Nat.{ℕ, zero, suc, _+_, _≤_, _<_}
+use Prim.Native.Nat.{ℕ, zero, suc, _+_, _*_, _/_, _%_, _≤_, _<_}
 use native.Mathlib.Nat.{not-suc-le-zero, le-of-suc-le-suc}
 use native.Mathlib.Omega.{arith}
-use lib.Dec.{eqb, ltb, leb→le}
-use lib.ListN.{length, getD, List·getD-eq-default}
-use borrow.Author.Tests.{ltb-true, ltb-false}
+use lib.Dec.{eqb}
+use lib.ListN.{getD}
 use Rattle.text.specs.Bytes.{byteAt}
-use Rattle.text.specs.Forms.{forms, signsOf}
-use Rattle.text.proofs.Tests.{by-test}
+use Rattle.text.specs.Forms.{signsOf}
 use Rattle.signs.specs.Blankless.{blankless}
-use Rattle.signs.proofs.Signs.{short, each}
 
 module _ (g : ℕ → ℕ) where
   abbrev pub tabulate : ℕ → ℕ → List ℕ
@@ -41,27 +35,14 @@ module _ (g : ℕ → ℕ) where
   pub entry : (n k : ℕ) → map blankless (spaced n) ≡ tabulate 0 n → k < n → blankless (getD (spaced n) k 0) ≡ g k
   entry n k e h = let d : 0 + k ≡ k = omega arith in blankless-at (spaced n) k ∙ ap (λ u. getD u k 0) e ∙ rule 0 n k h ∙ ap g d
 
-  -- a table of all forms, wherever it is looked into
-  pub column : (i : ℕ) → map blankless (spaced 18) ≡ tabulate 0 18 → ((k : ℕ) → 18 ≤ k → g k ≡ 0) → blankless (getD (spaced 18) i 0) ≡ g i
-  unfolding blankless
-  column i e past =
-      by-test (ltb i 18)
-      (λ t. entry 18 i e (ltb-true i 18 t))
-      (λ t. let h = ltb-false i 18 t in ap blankless (List·getD-eq-default (spaced 18) 0 {n = i} h) ∙ sym (past i h))
+-- four signs of each form, from one of them on
+abbrev pub signFrom : ℕ → ℕ → ℕ
+signFrom from n = byteAt (signsOf (n / 4)) (from + n % 4)
 
--- past the forms there are no signs, nor past the eighth sign of one
-pub no-form : (i : ℕ) → 18 ≤ i → signsOf i ≡ []
-no-form i h = List·getD-eq-default ([] ∷ forms) [] {n = i} h
-
-pub no-sign : (i j : ℕ) → 8 ≤ j → byteAt (signsOf i) j ≡ 0
-no-sign i j h = List·getD-eq-default (signsOf i) 0 {n = j} (omega (arith, leb→le (length (signsOf i)) 8 (each short tt ([] ∷ forms) i tt)))
-
--- sign number j of each form, and the letter of its x
-abbrev pub signIn : ℕ → ℕ → ℕ
-signIn j i = byteAt (signsOf i) j
-
-pub sign-column : (j i : ℕ) → map blankless (spaced (signIn j) 18) ≡ tabulate (signIn j) 0 18 → blankless (getD (spaced (signIn j) 18) i 0) ≡ byteAt (signsOf i) j
-sign-column j i e = column (signIn j) i e (λ k h. ap (λ f. byteAt f j) (no-form k h))
-
-pub up : (k j : ℕ) → k ≤ j → (j ≡ k → ⊥) → suc k ≤ j
-up k j h n = omega (arith, n)
+pub four : (from i j : ℕ) → map blankless (spaced (signFrom from) 72) ≡ tabulate (signFrom from) 0 72 → i ≤ 17 → j ≤ 3
+    → blankless (getD (spaced (signFrom from) 72) (4 * i + j) 0) ≡ byteAt (signsOf i) (from + j)
+four from i j e hi hj =
+    let n = 4 * i + j in
+    let q : n / 4 ≡ i = omega arith in
+    let r : n % 4 ≡ j = omega arith in
+    entry (signFrom from) 72 n e (omega arith) ∙ ap (λ i. byteAt (signsOf i) (from + n % 4)) q ∙ ap (λ j. byteAt (signsOf i) (from + j)) r

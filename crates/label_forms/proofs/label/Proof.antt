@@ -1,29 +1,19 @@
 use mathlib.Core.Path.{_≡_, sym, _∙_}
-use Prim.Native.Nat.{_≤_, _<_}
 use mathlib.Core.List.{[], _∷_}
 use native.Mathlib.Omega.{arith}
-use lib.ListN.{length}
 use borrow.Author.Needs.{needs}
-use Rattle.text.specs.declared.Sort.the-variants.{Named}
-use Rattle.text.specs.declared.Took.the-variants.{On}
-use Rattle.text.specs.Forms.{partOf, takeRun, takePart, xAt, yAt}
-use Rattle.parts.proofs.Further.{name-reach, took-on, took-off, last-is, closing}
+use Rattle.text.specs.Forms.{partOf, takePart, xAt, yAt}
+use Rattle.parts.proofs.Further.{name-to, took-on, took-off, last-is, closing}
 use Rattle.label_forms.proofs.label.Statement.{statement}
 use Rattle.label_forms.proofs.label.Tie as tie
-
--- the name is there
-on : (c : tie.After-known-told2) → let a = c .before .before .before .before .before .args in takeRun Named 16 (a .s .now) (a .at) ≡ On (c .before .took2 .given .0 .0)
-on c = sym (c .before .before .before .take-name .ensures) ∙ c .before .took2 .given .1
-
-reach : (c : tie.After-known-told2) → let a = c .before .before .before .before .before .args in let e = c .before .took2 .given .0 .0 in (a .at < e) × (e ≤ length (a .s .now))
-reach c = let a = c .before .before .before .before .before .args in name-reach (a .s .now) (a .at) (c .before .took2 .given .0 .0) (on c)
 
 pub label-spec : {M : Type 1} → statement M
 unfolding takePart partOf xAt yAt
 label-spec =
     tie.close
-    (tie.spec (λ c κs. search needs) (λ c. search needs) (λ c κs. search needs) (λ c. search needs) (λ c. omega (arith, reach c)) (λ c κs. search needs)
+    (tie.spec (λ c κs. search needs) (λ c. search needs) (λ c κs. search needs) (λ c. search needs)
+    (λ c. let a = c .before .before .before .before .before .args in omega (arith, name-to (a .s .now) (a .at) (c .before .took2 .given .0 .0) (sym (c .before .before .before .take-name .ensures) ∙ c .before .took2 .given .1))) (λ c κs. search needs)
     (λ c. let a = c .before .before .before .before .before .before .args in
     c .stuck .ensures ∙ sym (took-off (a .s .now) 115 (a .at) (c .before .before .took .given .0 .0) 5 (93 ∷ []) 0 0 (sym (c .before .before .before .before .take-name .ensures) ∙ c .before .before .took .given .1)))
     (λ c. let a = c .before .before .before .before .before .before .args in let e = c .before .before .took2 .given .0 .0 in
-    c .last-sign .ensures ∙ last-is closing 5 (a .s .now) e _ _ ∙ sym (took-on (a .s .now) 115 (a .at) e 5 (93 ∷ []) 0 0 (on (c .before)))))
+    c .last-sign .ensures ∙ last-is closing 5 (a .s .now) e _ _ ∙ sym (took-on (a .s .now) 115 (a .at) e 5 (93 ∷ []) 0 0 (sym (c .before .before .before .before .take-name .ensures) ∙ c .before .before .took2 .given .1))))
