@@ -26,10 +26,10 @@
  * measured on the deepest and longest inputs, and a test holds it to that; a
  * thread needs as much and what its own frames take:
  *
- *     qh_check_routine      51,200    qh_list              196,608
+ *     qh_check_routine      51,200    qh_list              198,656
  *     qh_check_base          1,024    qh_run_routine        53,248
  *     qh_check_relative      1,024    qh_run_base            3,072
- *     qh_convert            52,224    qh_step_routine       54,272
+ *     qh_convert            59,392    qh_step_routine       54,272
  *     qh_to_relative         1,024    qh_step_base           3,072
  *     qh_to_absolute         1,024    qh_read_text          16,384
  *                                     qh_write_text         13,312

@@ -22,8 +22,8 @@ use Rattle.records.proofs.Writing.{rec-getD}
 use Rattle.places.specs.declared.Stage.{Stage}
 use Rattle.places.specs.declared.Stage.the-variants.{Labels, Calls, Loops, Conditionals}
 use Rattle.places.specs.Stages.{becomes, expanded, within, leads, kept}
-use Rattle.stages.specs.Groups.{labelled, chainOf, called, looped, parted, group, staged}
-use Rattle.stages.proofs.Groups.{staged-is}
+use Rattle.places.specs.Groups.{labelled, chainOf, called, looped, parted, group, staged}
+use Rattle.places.proofs.Groups.{staged-is}
 
 pub record Own (s : List ℕ) : Type 0 where
   pub own : map encode (ops s) ≡ records s

@@ -26,7 +26,7 @@ use Rattle.records.proofs.Writing.{wrote-as, wrote-length}
 use Rattle.places.specs.declared.Stage.{Stage}
 use Rattle.places.specs.Writing.{Fitted}
 use Rattle.places.proofs.Writing.{fit-sizes, fit-as, fit-all}
-use Rattle.stages.specs.Groups.{staged}
+use Rattle.places.specs.Groups.{staged}
 use Rattle.lower.proofs.Groups.{Own, lowers, stage-is}
 
 pub part-length : {g : List Rec} {o w : List ℕ} {k : ℕ} → Fitted g o w k → k ≡ length (take k w)

@@ -1,13 +1,13 @@
 -- What the machine's own functions answer, and when a table of places is right.
 use mathlib.Core.Path.{_≡_}
-use Rattle.rules.specs.Words.{ℕ, true, List, length}
+use Rattle.rules.specs.Words.{ℕ, List}
 use Rattle.rules.specs.declared.Stack.{Stack}
 use Rattle.rules.specs.declared.State.{State}
 use Rattle.rules.specs.declared.Status.{Status}
 use Rattle.rules.specs.declared.Ran.{Ran}
 use Rattle.rules.specs.declared.Outcome.the-variants.{Stopped}
 use Rattle.rules.specs.Record.{count}
-use Rattle.rules.specs.Numbers.{names, moveTo}
+use Rattle.rules.specs.Numbers.{moveTo}
 use Rattle.rules.specs.Stack.{fresh}
 use Rattle.ways.specs.Places.{placeAt}
 use Rattle.deeds.specs.Deeds.{placeIn}
@@ -28,9 +28,3 @@ stops w i s steps asked = record {
 -- By the table ps, record j of the file leads where it should.
 abbrev pub Right : List ℕ → List ℕ → ℕ → Type 0
 Right s ps j = moveTo (count s) (placeIn ps j) ≡ moveTo (count s) (placeAt s j)
-
--- The place of record i is put into the table, and no other is changed.
-pub record Put (s : List ℕ) (i : ℕ) (ps ps′ : List ℕ) : Type 0 where
-  pub long : length ps′ ≡ length ps
-  pub put : names 512 i ≡ true → Right s ps′ i
-  pub others : (j : ℕ) → names 512 j ≡ true → ¬ (j ≡ i) → placeIn ps′ j ≡ placeIn ps j

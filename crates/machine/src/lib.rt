@@ -1,6 +1,5 @@
 // The machine: runs and single steps, of routines and bases.
 mod run;
-mod table;
 
 use checks::check_base;
 use rules::Ran;
@@ -12,9 +11,9 @@ use stack::Counters;
 use states::turned_away;
 use states::with_replies;
 use states::with_state;
-use table::fill;
-use table::put_place;
+use ways::fill_ways;
 ghost use mathlib.Core.Path.{_≡_};
+ghost use Prim.Native.Nat.{_-_};
 ghost use Rattle.rules.specs.Answers.{Called, runRoutine, runBase, stepRoutine, stepBase};
 ghost use Rattle.machine.specs.Running.{freshAt};
 
@@ -26,6 +25,13 @@ fn fresh_at(at: usize) -> State
     State { at, stack }
 }
 
+// How many records stand before a position.
+fn earlier(at: usize) -> usize
+    ensures { λ r. ⌜ r ≡ at - 1 ⌝ }
+{
+    if at == 0 { 0 } else { at - 1 }
+}
+
 // Runs a routine from its start: checks 1 to 7, then 9.
 pub fn run_routine(routine: &[u8], replies: &[u8], log: &mut [u8], budget: u64) -> Ran
     ensures { λ r. ⌜ Called (runRoutine (now (routine .entry)) (now (replies .entry)) (now (log .entry)) budget) r (now (log .exit)) ⌝ }
@@ -35,7 +41,7 @@ pub fn run_routine(routine: &[u8], replies: &[u8], log: &mut [u8], budget: u64) 
         Verdict::Refused(r) => turned_away(r, fresh_at(0)),
         Verdict::Accepted(_) => {
             let mut places = [0u16; 512];
-            fill(routine, &mut places);
+            fill_ways(routine, 0, routine.len() / 8, &mut places);
             drive(routine, &places, replies, log, budget, fresh_at(1))
         }
     }
@@ -65,7 +71,7 @@ pub fn step_routine(routine: &[u8], replies: &[u8], log: &mut [u8], state: State
         Verdict::Refused(r) => turned_away(r, state),
         Verdict::Accepted(_) => {
             let mut places = [0u16; 512];
-            put_place(routine, state.at, &mut places);
+            fill_ways(routine, earlier(state.at), state.at, &mut places);
             drive(routine, &places, replies, log, 1, state)
         }
     }

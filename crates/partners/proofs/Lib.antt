@@ -1,3 +1,3 @@
-pub mod Searching
+pub mod Roles
 pub mod Targets
 pub mod Once

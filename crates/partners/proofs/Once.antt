@@ -2,27 +2,11 @@
 -- reads it from the source.
 use mathlib.Core.Path.{_≡_}
 use Rattle.partners.proofs.role_of.Reads as role-of
-use Rattle.partners.proofs.conditional_end.Reads as conditional-end
-use Rattle.partners.proofs.arm_end.Reads as arm-end
-use Rattle.partners.proofs.loop_end.Reads as loop-end
-use Rattle.partners.proofs.loop_header.Reads as loop-header
 use Rattle.partners.proofs.labels.target.Reads as target
 use Rattle.partners.proofs.labels.target2.Reads as target2
 
 role-of-once : (κs : _) (a : _) (r r′ : _) (e e′ : _) → role-of.Learnt κs a r e → role-of.Learnt κs a r′ e′ → r ≡ r′
 role-of-once κs a r r′ e e′ p q = cc
-
-conditional-end-once : (κs : _) (a : _) (r r′ : _) (e e′ : _) → conditional-end.Learnt κs a r e → conditional-end.Learnt κs a r′ e′ → r ≡ r′
-conditional-end-once κs a r r′ e e′ p q = cc
-
-arm-end-once : (κs : _) (a : _) (r r′ : _) (e e′ : _) → arm-end.Learnt κs a r e → arm-end.Learnt κs a r′ e′ → r ≡ r′
-arm-end-once κs a r r′ e e′ p q = cc
-
-loop-end-once : (κs : _) (a : _) (r r′ : _) (e e′ : _) → loop-end.Learnt κs a r e → loop-end.Learnt κs a r′ e′ → r ≡ r′
-loop-end-once κs a r r′ e e′ p q = cc
-
-loop-header-once : (κs : _) (a : _) (r r′ : _) (e e′ : _) → loop-header.Learnt κs a r e → loop-header.Learnt κs a r′ e′ → r ≡ r′
-loop-header-once κs a r r′ e e′ p q = cc
 
 target-once : (κs : _) (a : _) (r r′ : _) (e e′ : _) → target.Learnt κs a r e → target.Learnt κs a r′ e′ → r ≡ r′
 target-once κs a r r′ e e′ p q = cc

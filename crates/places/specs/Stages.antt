@@ -1,5 +1,6 @@
 -- The four stages, alike: what a record becomes, and where a jump leads once second level is removed.
-use Rattle.rules.specs.Words.{ℕ, _*_, cond, List, length, eqb, leb}
+use mathlib.Core.Path.{_≡_}
+use Rattle.rules.specs.Words.{ℕ, _*_, cond, List, length, getD, eqb, leb}
 use Rattle.rules.specs.Record.{Rec, rec}
 use Rattle.rules.specs.Numbers.{each}
 use Rattle.rules.specs.Instruction.{Op, ops}
@@ -39,3 +40,11 @@ leads stage s k = within (renumber (expanded stage (ops s)) k)
 -- A record that stays, but for its number where it is a jump.
 unfoldable pub kept : Stage → List ℕ → Rec → Rec
 kept stage s r = cond (eqb (r .kind) 4) (rec 4 (leads stage s (r .x)) 0) r
+
+-- The same by a table of where jumps lead.
+unfoldable pub keptBy : List ℕ → Rec → Rec
+keptBy t r = cond (eqb (r .kind) 4) (rec 4 (getD t (r .x) 0) 0) r
+
+-- A table has where jumps lead in the stage on this file.
+pub record Leading (stage : Stage) (s t : List ℕ) : Type 0 where
+  pub led : (k : ℕ) → getD t k 0 ≡ leads stage s k

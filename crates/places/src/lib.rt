@@ -4,13 +4,17 @@ use records::kind_at;
 use records::put_record;
 use records::x_at;
 use records::y_at;
+use tables::has_room;
+use tables::look;
 ghost use mathlib.Core.Path.{_≡_};
 ghost use mathlib.Core.List.{[], _∷_};
 ghost use Prim.Native.Nat.{_≤_};
-ghost use Rattle.rules.specs.Record.{rec};
+ghost use lib.ListN.{getD};
+ghost use Rattle.rules.specs.Record.{rec, count};
 ghost use Rattle.rules.specs.Numbers.{past};
 ghost use Rattle.records.specs.Reading.{recAt};
-ghost use Rattle.places.specs.Stages.{secondsOf, leads, kept};
+ghost use Rattle.tables.specs.Tables.{filled};
+ghost use Rattle.places.specs.Stages.{secondsOf, within, leads, keptBy};
 ghost use Rattle.places.specs.Writing.{Fitted};
 
 // The four stages.
@@ -46,54 +50,53 @@ fn seconds_of(stage: Stage, n: usize, kind: u8) -> usize
     }
 }
 
-// Where a jump to k leads: ##0 stays, one above the count becomes ##0, any other ##k becomes ##(k+l), l being the second-level
-// records before the k-th first-level one. 0 where that is beyond what a base can hold.
-pub fn place(stage: Stage, s: &[u8], k: usize) -> u16
-    ensures { λ r. ⌜ r ≡ leads stage (now (s .entry)) k ⌝ }
+// A number that a base can have; 0 in place of a greater one.
+fn short(k: usize) -> u16
+    ensures { λ r. ⌜ r ≡ within k ⌝ }
 {
+    if k <= 4096 {
+        return k as u16;
+    }
+    0
+}
+
+// Where every jump leads: ##0 stays, one above the count becomes ##0, any other ##k becomes ##(k+l), l being the second-level records
+// before the k-th first-level one. They are counted once. 0 where that is beyond what a base can hold.
+pub fn fill_places(stage: Stage, s: &[u8], t: &mut [u16])
+    ensures { λ _. ⌜ now (t .exit) ≡ filled (leads stage (now (s .entry))) (count (now (s .entry))) (now (t .entry)) ⌝ }
+{
+    if !has_room(s, t) {
+        return;
+    }
     let n = s.len() / 8;
-    if k == 0 {
-        return 0;
-    }
-    if n < k {
-        return 0;
-    }
-    let mut p = k;
+    t[0] = 0;
+    let mut l = 0;
     let mut i = 0;
-    while i + 1 < k {
-        if 4096 < p {
-            return 0;
-        }
+    while i < n {
         i += 1;
-        p += seconds_of(stage, n, kind_at(s, i));
+        t[i] = short(i + l);
+        l += seconds_of(stage, n, kind_at(s, i));
     }
-    if 4096 < p {
-        return 0;
-    }
-    p as u16
 }
 
 // Where a jump past record k leads; there is none to jump past where k is 0.
-pub fn place_past(stage: Stage, s: &[u8], k: usize) -> u16
-    ensures { λ r. ⌜ r ≡ leads stage (now (s .entry)) (past k) ⌝ }
+pub fn look_past(t: &[u16], k: u16) -> u16
+    ensures { λ r. ⌜ r ≡ getD (now (t .entry)) (past k) 0 ⌝ }
 {
     if k == 0 {
-        return 0;
+        return look(t, 0);
     }
-    if s.len() / 8 <= k {
-        return 0;
-    }
-    place(stage, s, k + 1)
+    look(t, k as usize + 1)
 }
 
-// A record that stays, but for its number where it is a jump.
-pub fn put_kept(stage: Stage, s: &[u8], i: usize, out: &mut [u8]) -> usize
-    ensures { λ r. ⌜ Fitted (kept stage (now (s .entry)) (recAt (now (s .entry)) i) ∷ []) (now (out .entry)) (now (out .exit)) r ⌝ }
+// A record that stays, but for its number where it is a jump: the table has where it leads.
+pub fn put_kept(s: &[u8], i: usize, t: &[u16], out: &mut [u8]) -> usize
+    ensures { λ r. ⌜ Fitted (keptBy (now (t .entry)) (recAt (now (s .entry)) i) ∷ []) (now (out .entry)) (now (out .exit)) r ⌝ }
 {
     let kind = kind_at(s, i);
     let x = x_at(s, i);
     if kind == 4 {
-        return put_record(out, 4, place(stage, s, x as usize), 0);
+        return put_record(out, 4, look(t, x as usize), 0);
     }
     put_record(out, kind, x, y_at(s, i))
 }

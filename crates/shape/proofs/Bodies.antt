@@ -28,7 +28,7 @@ use Rattle.shape.specs.declared.nesting.Read.{Read}
 use Rattle.shape.specs.declared.nesting.Read.the-variants.{To, Misfit, Open}
 use Rattle.shape.specs.declared.nesting.Behind.{Behind}
 use Rattle.shape.specs.declared.nesting.Behind.the-variants as behind
-use Rattle.partners.specs.Searching.{sortOf}
+use Rattle.partners.specs.Roles.{sortOf}
 use Rattle.shape.specs.Reading.{startOf, behindBy, behindOf, run, Shut, bracketAt, Passes, Fails, StaysOpen, BodyTo, BodyRead, ItemRead}
 
 -- ## Reading by places

@@ -9,7 +9,7 @@ ghost use Rattle.rules.specs.Record.{count};
 ghost use Rattle.rules.specs.Instruction.{ops, conditional, loop};
 ghost use Rattle.rules.specs.Nesting as rule;
 ghost use Rattle.laws.proofs.Partners.{roleOfKind};
-ghost use Rattle.partners.specs.Searching.{sortOf};
+ghost use Rattle.partners.specs.Roles.{sortOf};
 ghost use Rattle.shape.specs.Reading.{startOf, behindOf, BodyRead, ItemRead};
 
 // What a record is to a body: a header, an item alone, or a separator or an end, which starts no item.

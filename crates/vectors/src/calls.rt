@@ -6,7 +6,13 @@ use crate::print::answer_line;
 use crate::print::named;
 use crate::print::word;
 use lower::convert;
+use partners::Sort;
+use partners::target;
+use partners::target2;
 use rules::Verdict;
+use tables::fill_headers;
+use tables::fill_stops;
+use tables::look;
 
 fn print_name(what: u8) {
     match what {
@@ -97,15 +103,27 @@ fn print_asked(what: u8) {
     }
 }
 
+// The partner of record i, by the table that has it.
+fn partner(what: u8, s: &[u8], i: usize) -> usize {
+    let mut t = [0u16; 513];
+    if what == 8 {
+        fill_headers(s, &mut t);
+        return look(&t, i) as usize;
+    }
+    let sort = if what == 7 {
+        Sort::Loop
+    } else {
+        Sort::Conditional
+    };
+    fill_stops(sort, s, &mut t);
+    look(&t, i) as usize
+}
+
 fn found(what: u8, s: &[u8], x: u16, y: u16) -> usize {
-    let i = x as usize;
     match what {
-        7 => partners::loop_end(s, i),
-        8 => partners::loop_header(s, i),
-        9 => partners::conditional_end(s, i),
-        10 => partners::arm_end(s, i),
-        11 => partners::target(s, x),
-        _ => partners::target2(s, x, y),
+        11 => target(s, x),
+        12 => target2(s, x, y),
+        _ => partner(what, s, x as usize),
     }
 }
 

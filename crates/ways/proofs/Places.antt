@@ -1,16 +1,15 @@
 -- Separators and ends are records of the list, so that the number after one fits; and the place of a record whose kind is known.
-use mathlib.Core.Path.{_≡_, refl, _∙_}
-use Prim.Native.Nat.{ℕ, zero, suc, _+_, _-_, _≤_, _<_, _^_}
+use mathlib.Core.Path.{_≡_, refl}
+use Prim.Native.Nat.{ℕ, zero, suc, _+_, _≤_, _<_}
 use native.Mathlib.Omega.{arith}
-use native.Mathlib.Numerals.{add-one}
 use mathlib.Core.Bool.{Bool, true, false}
 use mathlib.Core.List.{List, [], _∷_}
 use lib.ListN.{length, drop, length-drop, getD, List·getD-eq-default}
 use lib.Dec.{eqb, leb}
 use borrow.Author.Tests.{eqb-true, eqb-false, leb-true, leb-false}
-use Rattle.rules.specs.Record.{rec, count}
+use Rattle.rules.specs.Record.{count}
 use Rattle.rules.specs.Instruction.{Sort, conditional, loop, Op, ops}
-use Rattle.rules.specs.Numbers.{given, past}
+use Rattle.rules.specs.Numbers.{past}
 use Rattle.rules.specs.Partners.{Role, opens, parts, ends, other, role, stopAt, stopFrom, endOf, armOf}
 use Rattle.laws.proofs.Records.{ops-length}
 use Rattle.records.specs.Reading.{recAt}
@@ -58,15 +57,6 @@ module _ (s : List ℕ) (i : ℕ) (h : 0 < recAt s i .kind) where
   pub arm-in : armOf (ops s) i ≤ count s
   unfolding armOf
   arm-in = stop-in true conditional
-
-pub past-none : (k : ℕ) → k ≡ 0 → past k ≡ 0
-unfolding past given
-past-none k e = rw e
-
-pub past-some : (k : ℕ) → ¬ (k ≡ 0) → past k ≡ k + 1
-unfolding past given
-past-some zero h = absurd (h refl)
-past-some (suc k) h = omega arith
 
 -- The kinds that come in twos, and those of no place.
 module _ (L : List Op) (i x y : ℕ) where

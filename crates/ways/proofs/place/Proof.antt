@@ -1,35 +1,20 @@
-use mathlib.Core.Path.{_≡_, sym, ap, _∙_}
-use Prim.Native.Nat.{_≤_, _<_}
+use mathlib.Core.Path.{sym, ap, _∙_}
+use Prim.Native.Nat.{_≤_}
 use native.Mathlib.Omega.{arith}
 use native.Mathlib.Numerals.{add-one}
-use borrow.Author.Needs.{needs}
-use Rattle.rules.specs.Instruction.{conditional, loop}
 use Rattle.rules.specs.Numbers.{past}
-use Rattle.rules.specs.Labels.{target, target2}
+use Rattle.rules.specs.Labels.{target}
 use Rattle.ways.specs.Places.{places, placeFor, placeAt}
-use Rattle.ways.proofs.Places.{in-file, end-in, arm-in, place-header, place-loop, place-below, place-above}
+use Rattle.ways.proofs.Places.{in-file, place-header, place-loop, place-below, place-above}
+use Rattle.ways.proofs.Ways.{arm-at, end-at, loop-at, header-at}
+use borrow.Author.Needs.{needs}
 use Rattle.ways.proofs.place.Statement.{statement}
 use Rattle.ways.proofs.place.Tie as tie
 
-past-end : tie.Need-past-record-requires
-past-end c κs =
-    let a = c .before .before .before .before .args in
-    omega (arith, c .conditional-end .ensures, end-in (a .s .now) (a .i) (omega (arith, c .before .before .kind-at .ensures, c .before .match .keys3)) conditional)
-
 past-own : tie.Need-add-result
 past-own c =
-    let a = c .before .before .before .args in
-    omega (arith, in-file (a .s .now) (a .i) (omega (arith, c .before .kind-at .ensures, c .match .keys4)))
-
-past-arm : tie.Need-past-record-requires-2
-past-arm c κs =
     let a = c .before .before .before .before .before .before .args in
-    omega (arith, c .arm-end .ensures, arm-in (a .s .now) (a .i) (omega (arith, c .before .before .before .before .kind-at .ensures, c .before .before .if1 .left)))
-
-past-loop : tie.Need-past-record-requires-3
-past-loop c κs =
-    let a = c .before .before .before .before .before .before .before .args in
-    omega (arith, c .loop-end .ensures, end-in (a .s .now) (a .i) (omega (arith, c .before .before .before .before .before .kind-at .ensures, c .before .before .before .if1 .left)) loop)
+    omega (arith, in-file (a .s .now) (a .i) (omega (arith, c .before .kind-at .ensures, c .match .keys4)))
 
 gotos : tie.Need-returns
 unfolding placeAt placeFor places
@@ -46,8 +31,10 @@ gotos-2 c =
 separates : tie.Need-returns-3
 unfolding placeAt placeFor places
 separates c =
-    let e = sym (c .before .before .before .kind-at .ensures) ∙ c .before .before .match .keys3 in
-    rw e (c .past-record .ensures ∙ ap past (c .before .conditional-end .ensures))
+    let k = c .before .before .before .kind-at .ensures in
+    let h = c .before .before .match .keys3 in
+    let e = sym k ∙ h in
+    rw e (c .past-record .ensures ∙ ap past (c .before .look .ensures ∙ end-at _ (c .before .before .before .before .before .before .before .before .pre) k h))
 
 ends : tie.Need-returns-4
 unfolding placeAt placeFor places
@@ -58,23 +45,31 @@ ends c =
 loop-ends : tie.Need-returns-5
 unfolding placeAt placeFor places
 loop-ends c =
-    let e = sym (c .before .before .kind-at .ensures) ∙ c .before .match .keys5 in
-    rw e (c .loop-header .ensures)
+    let k = c .before .before .kind-at .ensures in
+    let e = sym k ∙ c .before .match .keys5 in
+    rw e (c .look2 .ensures ∙ header-at _ (c .before .before .before .before .before .before .before .pre) k (c .before .match .keys5))
 
 headers : tie.Need-returns-6
 unfolding placeAt
 headers c =
-    let e = c .before .before .before .before .before .kind-at .ensures in
-    c .past-record2 .ensures ∙ ap past (c .before .arm-end .ensures)
-    ∙ sym (place-header _ _ _ _ _ (omega (arith, e, c .before .before .before .if1 .left)) (omega (arith, e, c .before .before .if2 .taken)))
+    let k = c .before .before .before .before .before .kind-at .ensures in
+    let q = c .before .before .before .before .match .rest in
+    let l : 8 ≤ c .before .before .before .before .before .kind-at .result = omega (arith, q .0 .0 .0 .0 .1, q .0 .0 .0 .1, c .before .before .before .if1 .left) in
+    let h = c .before .before .if2 .taken in
+    c .past-record2 .ensures
+    ∙ ap past (c .before .look3 .ensures ∙ arm-at _ (c .before .before .before .before .before .before .before .before .before .before .pre) k l (omega (arith, h)))
+    ∙ sym (place-header _ _ _ _ _ (omega (arith, k, l)) (omega (arith, k, h)))
 
 loop-headers : tie.Need-returns-7
 unfolding placeAt
 loop-headers c =
-    let e = c .before .before .before .before .before .before .kind-at .ensures in
+    let k = c .before .before .before .before .before .before .kind-at .ensures in
     let q = c .before .before .before .before .before .match .rest in
-    c .past-record3 .ensures ∙ ap past (c .before .loop-end .ensures)
-    ∙ sym (place-loop _ _ _ _ _ (omega (arith, e, q .0 .0 .1, q .0 .1, c .before .before .before .if2 .left)) (omega (arith, e, c .before .before .if3 .taken)))
+    let l : 12 ≤ c .before .before .before .before .before .before .kind-at .result = omega (arith, q .0 .0 .1, q .0 .1, c .before .before .before .if2 .left) in
+    let h = c .before .before .if3 .taken in
+    c .past-record3 .ensures
+    ∙ ap past (c .before .look4 .ensures ∙ loop-at _ (c .before .before .before .before .before .before .before .before .before .before .before .pre) k (omega (arith, l)) (omega (arith, h)))
+    ∙ sym (place-loop _ _ _ _ _ (omega (arith, k, l)) (omega (arith, k, h)))
 
 lower : tie.Need-returns-8
 unfolding placeAt
@@ -92,26 +87,7 @@ pub place-spec : {M : Type 1} → statement M
 place-spec =
     tie.close
     (tie.spec
-    (λ c κs. search needs)
-    (λ c κs. search needs)
-    (λ c κs. search needs)
-    (λ c κs. search needs)
-    (λ c κs. search needs)
-    (λ c κs. search needs)
-    (λ c κs. search needs)
-    past-end
-    past-own
-    (λ c κs. search needs)
-    (λ c κs. search needs)
-    past-arm
-    (λ c κs. search needs)
-    past-loop
-    gotos
-    gotos-2
-    separates
-    ends
-    loop-ends
-    headers
-    loop-headers
-    lower
-    higher)
+    (λ c κs. search needs) (λ c κs. search needs) (λ c κs. search needs) (λ c κs. search needs)
+    (λ c κs. search needs) (λ c κs. search needs) (λ c κs. search needs) (λ c κs. search needs) past-own
+    (λ c κs. search needs) (λ c. search needs) (λ c κs. search needs) (λ c κs. search needs) (λ c κs. search needs)
+    (λ c κs. search needs) gotos gotos-2 separates ends loop-ends headers loop-headers lower higher)

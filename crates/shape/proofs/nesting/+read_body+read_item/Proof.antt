@@ -8,7 +8,7 @@ use borrow.Author.Needs.{needs}
 use borrow.Fn.Kinds.{In}
 use borrow.Fn.PlainCycle.{Measures, is, falls, and}
 use Rattle.rules.specs.Record.{count}
-use Rattle.partners.specs.Searching.{sortOf}
+use Rattle.partners.specs.Roles.{sortOf}
 use Rattle.shape.specs.Reading.{Passes, ItemTo}
 use Rattle.shape.proofs.Bodies.{body-end, body-shut, item-is, item-alone, item-shut, Into, into-first, Parted, After, after-read, after-is}
 use Rattle.shape.proofs.nesting.read_body.Reads as read-body

@@ -1,7 +1,7 @@
 use borrow.Author.Needs.{needs}
 use borrow.Author.Tests.{lt-ltb, le-ltb}
 use Rattle.shape.specs.Reading.{behindBy, behindOf}
-use Rattle.partners.proofs.Searching.{told}
+use Rattle.partners.proofs.Roles.{told}
 use Rattle.shape.proofs.nesting.after_body.Statement.{statement}
 use Rattle.shape.proofs.nesting.after_body.Tie as tie
 

@@ -1,6 +1,6 @@
 use borrow.Author.Needs.{needs}
 use Rattle.shape.specs.Reading.{startOf}
-use Rattle.partners.proofs.Searching.{told}
+use Rattle.partners.proofs.Roles.{told}
 use Rattle.shape.proofs.nesting.start_of.Statement.{statement}
 use Rattle.shape.proofs.nesting.start_of.Tie as tie
 

@@ -5,7 +5,7 @@ use Rattle.rules.specs.Instruction.{ops}
 use Rattle.laws.proofs.Records.{ops-length}
 use Rattle.laws.proofs.Fits.{target-in, target2-in}
 use Rattle.places.proofs.Writing.{fit-one, fit-as}
-use Rattle.stages.proofs.Groups.{label-here, goto-here, goto2-here, labels-keep}
+use Rattle.places.proofs.Groups.{label-here, goto-here, goto2-here, labels-keep}
 use Rattle.stages.proofs.labels.write_group.Statement.{statement}
 use Rattle.stages.proofs.labels.write_group.Tie as tie
 
