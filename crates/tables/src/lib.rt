@@ -21,7 +21,7 @@ pub fn look(t: &[u16], k: usize) -> u16
     if k < t.len() { t[k] } else { 0 }
 }
 
-// Whether a table has room for the records of a file, and for entry 0.
+// Whether a table has room for the records of a file, and for entry 0. No table is made of a file longer than a base may be.
 pub fn has_room(s: &[u8], t: &[u16]) -> bool
     ensures { λ r. ⌜ r ≡ room (count (now (s .entry))) (now (t .entry)) ⌝ }
 {
@@ -72,7 +72,8 @@ fn pass(sort: Sort, s: &[u8], t: &mut [u16], i: usize, top: u16) -> u16
     }
 }
 
-// Of a separator its end; of any other record where the arm behind it ends.
+// Of a separator its end; of any other record where the arm behind it ends. From the last record to the first: what an entry is found by
+// stands behind it.
 pub fn fill_stops(sort: Sort, s: &[u8], t: &mut [u16])
     ensures { λ _. ⌜ now (t .exit) ≡ filled (stopOf (sortOf sort) (ops (now (s .entry)))) (count (now (s .entry))) (now (t .entry)) ⌝ }
 {
@@ -103,7 +104,7 @@ fn enter(s: &[u8], t: &[u16], i: usize, top: u16) -> u16
     }
 }
 
-// Of every record the header of the loop that is open before it: of a loop's end its own.
+// Of every record the header of the loop that is open before it: of a loop's end its own. From the first record to the last.
 pub fn fill_headers(s: &[u8], t: &mut [u16])
     ensures { λ _. ⌜ now (t .exit) ≡ filled (openAt loop (ops (now (s .entry)))) (count (now (s .entry))) (now (t .entry)) ⌝ }
 {
