@@ -53,6 +53,8 @@ tries() {
     for number in 0 1 2 3 4 5 6 7 8 9 10 11 12 13 14 15 16 17 18 19 255; do
         kind "$number" | try "kind $number alone"
     done
+    kind 6 | try "a goto without its label" "refused 14 1"
+    (kind 6; kind 5) | try "a goto with its label" "length 2 2"
     "$program" <. 2>&1 | says "a directory" "list: standard input cannot be read"
     "$program" 2>&1 <&- | says "a closed input" "list: standard input cannot be read"
     "$program" <empty.routine 2>&1 >/dev/full | says "a full output" "list: standard output cannot be written"

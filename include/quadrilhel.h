@@ -61,7 +61,7 @@ extern "C" {
 #define QH_TEXT_BYTES (19 * QH_ROUTINE_RECORDS + 2 * (QH_ROUTINE_RECORDS - 1))
 
 /* Refusals, tried in the order 1, 2; then the lowest record with 3 or 4, 3 first
- * within it; then 5, 6, 7, 11, 8, 9, 10. */
+ * within it; then 5, 14, 6, 7, 11, 8, 9, 10. 12 and 13 are of texts. */
 enum qh_refusal {
     QH_ACCEPTED = 0,
     QH_RAGGED = 1,  /* the byte count is no multiple of 8; place 0 */
@@ -81,10 +81,13 @@ enum qh_refusal {
                        first such record */
     QH_TEXT = 12,   /* not a text; place: the first byte that no text could have there,
                        one past the end if it stops short */
-    QH_NAME = 13    /* an action's name that is not in the list, or a thousandth label;
+    QH_NAME = 13,   /* an action's name that is not in the list, or a thousandth label;
                        place: its first byte. Of a routine that is written: the first
                        record whose action has no name in the list. Place 0: the list
                        is no multiple of 16 bytes, or has more than 999 entries */
+    QH_LABEL = 14   /* a goto whose target is not there: ##[s] without an [s], or
+                       ##[s][t] without a [t] behind the leftmost [s]; place: the
+                       lowest such goto */
 };
 
 /* Why a run or a step stopped, tried in the order 1, 5, 2, 3, 4. */
@@ -125,7 +128,7 @@ typedef struct qh_ran {
     uint64_t actions; /* actions logged, two bytes each */
 } qh_ran;
 
-/* Checks a routine: refusals 1 to 7. count: its records. */
+/* Checks a routine: refusals 1 to 7 and 14. count: its records. */
 qh_verdict qh_check_routine(const uint8_t *bytes, size_t bytes_len);
 
 /* Checks a base: refusals 1 to 4. count: its records. */
@@ -134,9 +137,9 @@ qh_verdict qh_check_base(const uint8_t *bytes, size_t bytes_len);
 /* Checks a relative base: refusals 1 to 4. count: its records. */
 qh_verdict qh_check_relative(const uint8_t *bytes, size_t bytes_len);
 
-/* Converts a routine to its base: refusals 1 to 8. count: the base's records.
- * The first 8 * count bytes of out are the base, and the rest of out is as it
- * was. All of work is then zero. Each of the two needs 8 * count bytes. */
+/* Converts a routine to its base: refusals 1 to 8 and 14. count: the base's
+ * records. The first 8 * count bytes of out are the base, and the rest of out is as
+ * it was. All of work is then zero. Each of the two needs 8 * count bytes. */
 qh_verdict qh_convert(const uint8_t *routine, size_t routine_len,
                       uint8_t *out, size_t out_len,
                       uint8_t *work, size_t work_len);
@@ -151,9 +154,9 @@ qh_verdict qh_to_relative(const uint8_t *base, size_t base_len,
 qh_verdict qh_to_absolute(const uint8_t *relative, size_t relative_len,
                           uint8_t *out, size_t out_len);
 
-/* Writes the listing of a routine: refusals 1 to 7, and 8 if text is shorter than
- * the listing. count: the bytes of text written, every line with its line feed;
- * no zero byte is put behind them. */
+/* Writes the listing of a routine: refusals 1 to 7 and 14, and 8 if text is shorter
+ * than the listing. count: the bytes of text written, every line with its line
+ * feed; no zero byte is put behind them. */
 qh_verdict qh_list(const uint8_t *routine, size_t routine_len,
                    uint8_t *text, size_t text_len);
 
@@ -177,8 +180,8 @@ qh_verdict qh_write_text(const uint8_t *routine, size_t routine_len,
                          const uint8_t *names, size_t names_len,
                          uint8_t *text, size_t text_len);
 
-/* Runs a routine from its start for at most budget steps: refusals 1 to 7 and 9.
- * Each outside action uses one reply (0 no, 1 yes) and puts its number into the
+/* Runs a routine from its start for at most budget steps: refusals 1 to 7, 14 and
+ * 9. Each outside action uses one reply (0 no, 1 yes) and puts its number into the
  * log in two bytes, low first; the rest of the log is as it was. All reply bytes
  * are looked at, used or not. */
 qh_ran qh_run_routine(const uint8_t *routine, size_t routine_len,
@@ -192,7 +195,7 @@ qh_ran qh_run_base(const uint8_t *base, size_t base_len,
                    uint8_t *log, size_t log_len,
                    uint64_t budget);
 
-/* Takes one step of a routine from a given state: refusals 1 to 7, 9 and 10. It
+/* Takes one step of a routine from a given state: refusals 1 to 7, 14, 9 and 10. It
  * is a run with budget 1, so a step that was taken and did not end has status 5.
  * Replies and log count from their first byte in every call. */
 qh_ran qh_step_routine(const uint8_t *routine, size_t routine_len,

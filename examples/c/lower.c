@@ -39,6 +39,11 @@ static const char *in_words(uint32_t refusal)
     case QH_NESTING:
         return "a separator or end does not fit, or an opener is never closed; "
                "add or remove the missing part";
+    case QH_LABEL:
+        return "the label that a goto names is misspelt or was removed, or of two labels "
+               "the second does not stand behind the leftmost first one; correct the "
+               "goto, or put the label back, not directly behind a test, and raise the "
+               "numbers of jumps and calls to records behind it";
     case QH_SKIP:
         return "a plain test stands directly before a block, loop, call or return; "
                "put a call or return into a block with two arms, +a1{; R##k; }{; }; "

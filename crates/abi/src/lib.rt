@@ -15,7 +15,7 @@ ghost use Rattle.text.specs.Answers.{reading, writing, bytesRead, textWritten};
 ghost use Rattle.told.specs.Numbers.{verdictTold, stateGiven};
 ghost use Rattle.abi.specs.Exported.{Converts, Translates, Calls, Lists, Types};
 
-// Checks 1 to 7 of a routine.
+// The checks of a routine, 1 to 5, 14, 6 and 7.
 #[no_mangle]
 pub extern "C" fn qh_check_routine(bytes: &[u8]) -> QhVerdict
     ensures { λ r. ⌜ r ≡ verdictTold (checkRoutine (now (bytes .entry))) ⌝ }

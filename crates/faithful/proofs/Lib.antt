@@ -5,6 +5,7 @@ pub mod Loops
 pub mod Conditionals
 pub mod Grammar
 pub mod Partners
+pub mod Gotos
 pub mod Accepted
 pub mod Base
 pub mod Relative

@@ -8,8 +8,9 @@ use Rattle.rules.specs.declared.Status.{Status}
 use Rattle.rules.specs.declared.Verdict.the-variants.{Accepted}
 use Rattle.rules.specs.Numbers.{at}
 use Rattle.rules.specs.Record.{bytesOf, records}
-use Rattle.rules.specs.Instruction.{Sort, Op, encode, ops, file}
+use Rattle.rules.specs.Instruction.{Sort, Op, label, goto, goto2, encode, ops, file}
 use Rattle.rules.specs.Nesting.{nesting, Body}
+use Rattle.rules.specs.Labels.{target, target2}
 use Rattle.rules.specs.Skip.{skip, convertedLength}
 use Rattle.rules.specs.Convert.{convert}
 use Rattle.rules.specs.Relative.{toRelative, toAbsolute, far}
@@ -103,6 +104,21 @@ Partners =
 -- So in a file that is accepted.
 abbrev pub PartnersFile : Type 0
 PartnersFile = (f : List ℕ) (n : ℕ) → checkRoutine f ≡ Accepted n → (i : ℕ) (o : Op) → at (ops f) i ≡ some o → Belongs (ops f) i o
+
+-- ## Gotos (proofs/Gotos)
+
+-- The lookup of the label s found the place of a record, and that record is [s].
+pub record Aimed (L : List Op) (s : ℕ) (found : Option ℕ) : Type 0 where
+  pub place : ℕ
+  pub there : found ≡ some place
+  pub labelled : at L place ≡ some (label s)
+
+-- In a file that is accepted every goto has a target, and it is a label record: so the step of a goto never ends there for want of one.
+abbrev pub Gotos : Type 0
+Gotos =
+    (f : List ℕ) (n : ℕ) → checkRoutine f ≡ Accepted n → (i : ℕ)
+    → ((s : ℕ) → at (ops f) i ≡ some (goto s) → Aimed (ops f) s (target (ops f) s))
+    × ((s t : ℕ) → at (ops f) i ≡ some (goto2 s t) → Aimed (ops f) t (target2 (ops f) s t))
 
 -- ## The base (proofs/Base)
 

@@ -6,14 +6,15 @@ use mathlib.Core.Path.{_≡_, sym, ap, _∙_}
 use Prim.Native.Nat.{ℕ, zero, suc, _+_, _≤_}
 use native.Mathlib.Omega.{arith}
 use mathlib.Core.Bool.{Bool, true, false, cond}
+use mathlib.Core.Option.{Option, none, some}
 use mathlib.Core.List.{List, [], _∷_, _++_, map, map-append}
 use lib.ListN.{length, drop, length-drop, length-map}
 use Rattle.rules.specs.Record.{bytesOf, recordsOf}
 use Rattle.rules.specs.Instruction.{conditional, loop, Op, act, test, jump, label, goto, goto2, header, separator, end, call, return, encode, ops, file, decode}
-use Rattle.rules.specs.Numbers.{each, given}
+use Rattle.rules.specs.Numbers.{each, orZero}
 use Rattle.rules.specs.SecondLevel.{Group, members, renumber, sent, laid, removed}
 use Rattle.rules.specs.Skip.{convertedLength}
-use Rattle.rules.specs.Labels.{isLabel, labelFrom, labelAfter, target, target2, unlabel, labels}
+use Rattle.rules.specs.Labels.{isLabel, labelFrom, labelAfter, target, labelBehind, target2, unlabel, labels}
 use Rattle.rules.specs.Calls.{chain, uncall, calls}
 use Rattle.rules.specs.Loops.{unloop, loops}
 use Rattle.rules.specs.Conditionals.{uncond, conditionals}
@@ -45,28 +46,27 @@ module _ (L : List Op) (h : All Fit L) where
 
 -- ## Stage 1
 
-label-in : (s i : ℕ) (os : List Op) → labelFrom s i os ≤ i + length os
-unfolding labelFrom
+label-in : (s i : ℕ) (os : List Op) → orZero (labelFrom s i os) ≤ i + length os
+unfolding labelFrom orZero
 label-in s i [] = omega arith
 label-in s i (o ∷ os) = by (isLabel s o) (label-in s (suc i) os)
   where
-    by : (t : Bool) → labelFrom s (suc i) os ≤ suc i + length os → cond t i (labelFrom s (suc i) os) ≤ i + length (o ∷ os)
+    by : (t : Bool) → orZero (labelFrom s (suc i) os) ≤ suc i + length os → orZero (cond t (some i) (labelFrom s (suc i) os)) ≤ i + length (o ∷ os)
     by true h = omega arith
     by false h = omega arith
 
-given-in : (k x n : ℕ) → x ≤ n → given k x ≤ n
-unfolding given
-given-in zero x n h = omega arith
-given-in (suc k) x n h = h
-
 module _ (L : List Op) (n : ℕ) (l : length L ≤ n) where
-  pub target-in : (s : ℕ) → target L s ≤ n + 1
+  pub target-in : (s : ℕ) → orZero (target L s) ≤ n + 1
   unfolding target labelAfter
   target-in s = omega (arith, label-in s 1 L)
 
-  pub target2-in : (s t : ℕ) → target2 L s t ≤ n + 2
-  unfolding target2 labelAfter
-  target2-in s t = given-in (target L s) _ (n + 2) (omega (arith, label-in t (suc (target L s)) (drop (target L s) L), length-drop (target L s) L, target-in s))
+  pub target2-in : (s t : ℕ) → orZero (target2 L s t) ≤ n + 2
+  unfolding target2 labelBehind labelAfter orZero
+  target2-in s t = by (target L s) (target-in s)
+    where
+      by : (o : Option ℕ) → orZero o ≤ n + 1 → orZero (labelBehind L o t) ≤ n + 2
+      by none h = omega arith
+      by (some i) h = omega (arith, label-in t (suc i) (drop i L), length-drop i L)
 
   unlabel-fit : n ≤ 9997 → (p : ℕ) (o : Op) → p ≤ n → Fit o → Fit (unlabel L p o)
   unfolding unlabel

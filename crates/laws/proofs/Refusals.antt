@@ -22,6 +22,7 @@ use Rattle.rules.specs.Record.{count}
 use Rattle.rules.specs.Instruction.{ops}
 use Rattle.rules.specs.Checks.{ragged, most, long, faultFrom, recordChecks}
 use Rattle.rules.specs.Nesting.{nesting}
+use Rattle.rules.specs.Labels.{lostGoto}
 use Rattle.rules.specs.Skip.{skip, convertedLength, grown}
 use Rattle.rules.specs.Answers.{routineChecks, checkRecords, checkRoutine}
 
@@ -119,6 +120,7 @@ pub record Admitted (s : List ℕ) (n : ℕ) : Type 0 where
   pub fines : Fine Routine s
   pub counted : count s ≡ n
   pub nested : nesting (ops s) ≡ 0
+  pub aimed : lostGoto (ops s) ≡ 0
   pub allowed : skip (ops s) ≡ 0
   pub room : convertedLength (ops s) ≤ 4096
 
@@ -127,10 +129,12 @@ unfolding checkRoutine routineChecks grown
 admitted s n e =
     let a = neither (first (recordChecks Routine s)) _ (sym (first-append (recordChecks Routine s) _) ∙ accepted-none _ (count s) e) in
     let b = none-then _ _ (a .1) in
+    let c = none-then _ _ b in
     record {
       fines = fine Routine s (a .0);
       counted = sym (accepted-count (routineChecks s) (count s) e);
       nested = whenAt-none _ _ (none-first _ _ (a .1));
-      allowed = whenAt-none _ _ (none-first _ _ b);
-      room = ltb-false _ _ (when-none _ _ (none-first _ _ (none-then _ _ b)));
+      aimed = whenAt-none _ _ (none-first _ _ b);
+      allowed = whenAt-none _ _ (none-first _ _ c);
+      room = ltb-false _ _ (when-none _ _ (none-first _ _ (none-then _ _ c)));
     }

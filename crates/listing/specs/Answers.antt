@@ -13,7 +13,7 @@ use Rattle.listing.specs.Text.{textOf}
 unfoldable pub roomFor : List ℕ → List ℕ → Option Refusal
 roomFor t text = when (ltb (length text) (length t)) Room
 
--- list(s, text): refusals 1 to 7 of the routine, then 8.
+-- list(s, text): the routine's refusals, then 8.
 unfoldable pub listingOf : List ℕ → List ℕ → Verdict
 listingOf s text = verdict (routineChecks s ++ (roomFor (textOf s) text ∷ [])) (length (textOf s))
 

@@ -29,7 +29,7 @@ fn show(n: usize, base: &[u8], text: &mut [u8]) -> Verdict
     Verdict::Accepted(length)
 }
 
-// The listing of a routine at the start of the text, and how many bytes it has. A refusal, 1 to 7 of the routine, or 8 where the text
+// The listing of a routine at the start of the text, and how many bytes it has. A refusal, the routine's own or 8 where the text
 // is too short, prints nothing. The base has at most 4,096 records of eight bytes.
 pub fn list(routine: &[u8], text: &mut [u8]) -> Verdict
     ensures { λ r. ⌜ Listed (listingOf (now (routine .entry)) (now (text .entry))) (textOf (now (routine .entry))) (now (text .entry)) r (now (text .exit)) ⌝ }

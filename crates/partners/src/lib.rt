@@ -1,8 +1,4 @@
-// What a record is to the items that hold bodies, by its kind; and label targets.
-mod labels;
-
-pub use labels::target;
-pub use labels::target2;
+// What a record is to the items that hold bodies, by its kind.
 ghost use mathlib.Core.Path.{_≡_};
 ghost use Rattle.laws.proofs.Partners.{roleOfKind};
 ghost use Rattle.partners.specs.Roles.{sortOf, roleSaid};

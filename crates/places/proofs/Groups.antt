@@ -12,7 +12,7 @@ use lib.ListN.{length, getD}
 use borrow.Rule.Slice.PartMut.{putMid}
 use borrow.Author.Tests.{ne-eqb, le-leb, lt-leb}
 use Rattle.rules.specs.Record.{Rec, rec, count}
-use Rattle.rules.specs.Numbers.{past}
+use Rattle.rules.specs.Numbers.{orZero, past}
 use Rattle.rules.specs.Instruction.{conditional, loop, ops}
 use Rattle.rules.specs.Labels.{target, target2}
 use Rattle.rules.specs.Partners.{endOf, armOf, headerOf}
@@ -59,11 +59,11 @@ module _ (s : List ℕ) (i : ℕ) (r : Rec) {kind : ℕ} (e : kind ≡ r .kind) 
   unfolding labelled
   label-here h = rw (← e, h, add-one)
 
-  pub goto-here : {x m : ℕ} → x ≡ r .x → m ≡ target (ops s) x → kind ≡ 6 → labelled s i r ≡ to m
+  pub goto-here : {x m : ℕ} → x ≡ r .x → m ≡ orZero (target (ops s) x) → kind ≡ 6 → labelled s i r ≡ to m
   unfolding labelled
   goto-here f g h = rw (← e, h, g, f)
 
-  pub goto2-here : {x y m : ℕ} → x ≡ r .x → y ≡ r .y → m ≡ target2 (ops s) x y → kind ≡ 7 → labelled s i r ≡ to m
+  pub goto2-here : {x y m : ℕ} → x ≡ r .x → y ≡ r .y → m ≡ orZero (target2 (ops s) x y) → kind ≡ 7 → labelled s i r ≡ to m
   unfolding labelled
   goto2-here f g k h = rw (← e, h, k, f, g)
 

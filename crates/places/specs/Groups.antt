@@ -1,7 +1,7 @@
 -- What a record becomes in each stage, by its kind, with its jumps sent on; and what a whole stage writes.
 use Rattle.rules.specs.Words.{ℕ, zero, suc, cond, List, [], _∷_, _++_, getD, eqb, leb}
 use Rattle.rules.specs.Record.{Rec, rec, count}
-use Rattle.rules.specs.Numbers.{past}
+use Rattle.rules.specs.Numbers.{orZero, past}
 use Rattle.rules.specs.Instruction.{conditional, loop, ops}
 use Rattle.rules.specs.Labels.{target, target2}
 use Rattle.rules.specs.Partners.{endOf, armOf, headerOf}
@@ -21,7 +21,7 @@ before r k = r ∷ to k
 -- Stage 1: at place i, [s] becomes ##(i+1); a goto becomes ##m with m its target, 0 if it has none.
 unfoldable pub labelled : List ℕ → ℕ → Rec → List Rec
 labelled s i r =
-    cond (eqb (r .kind) 5) (to (suc i)) (cond (eqb (r .kind) 6) (to (target (ops s) (r .x))) (cond (eqb (r .kind) 7) (to (target2 (ops s) (r .x) (r .y))) (r ∷ [])))
+    cond (eqb (r .kind) 5) (to (suc i)) (cond (eqb (r .kind) 6) (to (orZero (target (ops s) (r .x)))) (cond (eqb (r .kind) 7) (to (orZero (target2 (ops s) (r .x) (r .y)))) (r ∷ [])))
 
 -- Stage 2: the chain for j; R##k at i becomes push(i+1) followed by ##k, and ##R the chain for n, the routine's record count.
 unfoldable pub chainOf : List ℕ → ℕ → List Rec

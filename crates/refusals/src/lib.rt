@@ -19,6 +19,7 @@ pub fn number_of(refusal: Refusal) -> usize
         Refusal::Reply(_) => 9,
         Refusal::State => 10,
         Refusal::Far(_) => 11,
+        Refusal::Label(_) => 14,
     }
 }
 
@@ -38,5 +39,6 @@ pub fn place_of(refusal: Refusal) -> usize
         Refusal::Reply(place) => place,
         Refusal::State => 0,
         Refusal::Far(place) => place,
+        Refusal::Label(place) => place,
     }
 }

@@ -2,7 +2,7 @@
 -- that is refused 6, and the incident.
 use mathlib.Core.Path.{_≡_}
 use Rattle.rules.specs.Words.{ℕ, true, false, List, [], _∷_, map, replicate}
-use Rattle.rules.specs.declared.Refusal.the-variants.{Ragged, Long, Kind, Field, Nesting, Skip, Growth, Room, Reply, Far}
+use Rattle.rules.specs.declared.Refusal.the-variants.{Ragged, Long, Kind, Field, Nesting, Skip, Growth, Room, Reply, Far, Label}
 use Rattle.rules.specs.declared.Refusal.the-variants as refusal
 use Rattle.rules.specs.declared.Verdict.the-variants.{Accepted, Refused}
 use Rattle.rules.specs.declared.Status.the-variants.{Ended, NoReply, LogFull, StackFull, Spent}
@@ -11,7 +11,7 @@ use Rattle.rules.specs.declared.Outcome.the-variants.{Stopped, TurnedAwa
 use Rattle.rules.specs.declared.State.{State}
 use Rattle.rules.specs.declared.Notation.the-variants.{Base}
 use Rattle.rules.specs.Record.{rec, bytesOf}
-use Rattle.rules.specs.Instruction.{push, pop, compare, outside, conditional, loop, Op, act, test, jump, label, goto2, header, separator, end, call, return, file}
+use Rattle.rules.specs.Instruction.{push, pop, compare, outside, conditional, loop, Op, act, test, jump, label, goto, goto2, header, separator, end, call, return, file}
 use Rattle.rules.specs.Refusals.{Told, told}
 use Rattle.rules.specs.Nesting.{nesting}
 use Rattle.rules.specs.Partners.{endOf, armOf}
@@ -33,8 +33,8 @@ unfoldable pub Checking : Type 0
 Checking =
     -- Eight bytes a record, low byte first.
     (file (-a 300 ∷ goto2 5 999 ∷ []) ≡ 3 ∷ 0 ∷ 44 ∷ 1 ∷ 0 ∷ 0 ∷ 0 ∷ 0 ∷ 7 ∷ 0 ∷ 5 ∷ 0 ∷ 231 ∷ 3 ∷ 0 ∷ 0 ∷ [])
-    -- The numbers 1 to 11, each with its place.
-    × (map told (Ragged ∷ Long ∷ Kind 9 ∷ Field 9 ∷ Nesting 9 ∷ Skip 9 ∷ Growth ∷ Room ∷ Reply 9 ∷ refusal.State ∷ Far 9 ∷ []) ≡ number 1 0 ∷ number 2 0 ∷ number 3 9 ∷ number 4 9 ∷ number 5 9 ∷ number 6 9 ∷ number 7 0 ∷ number 8 0 ∷ number 9 9 ∷ number 10 0 ∷ number 11 9 ∷ [])
+    -- The numbers 1 to 11, and 14, each with its place.
+    × (map told (Ragged ∷ Long ∷ Kind 9 ∷ Field 9 ∷ Nesting 9 ∷ Skip 9 ∷ Growth ∷ Room ∷ Reply 9 ∷ refusal.State ∷ Far 9 ∷ Label 9 ∷ []) ≡ number 1 0 ∷ number 2 0 ∷ number 3 9 ∷ number 4 9 ∷ number 5 9 ∷ number 6 9 ∷ number 7 0 ∷ number 8 0 ∷ number 9 9 ∷ number 10 0 ∷ number 11 9 ∷ number 14 9 ∷ [])
     -- Order: the lowest record with fault 3 or 4, 3 first within it.
     × (checkRoutine (1 ∷ []) ≡ Refused Ragged)
     × (checkRoutine (bytesOf (rec 1 1000 0 ∷ rec 17 0 0 ∷ [])) ≡ Refused (Field 1))
@@ -43,10 +43,20 @@ Checking =
     -- The lowest opener never closed; a second separator doesn't fit.
     × (checkRoutine (file (a 1 ∷ +a⟨ 1 ∷ +a⟨ 2 ∷ end conditional ∷ header loop true (outside 3) ∷ [])) ≡ Refused (Nesting 2))
     × (checkRoutine (file (+a⟨ 1 ∷ separator ∷ separator ∷ end conditional ∷ [])) ≡ Refused (Nesting 3))
+    -- 14: a goto to nowhere, the lowest; the second label is looked for strictly behind the first. 5 comes before it, 6 after it.
+    × (checkRoutine (file (goto 7 ∷ [])) ≡ Refused (Label 1))
+    × (checkRoutine (file (goto2 5 5 ∷ label 5 ∷ label 5 ∷ [])) ≡ Accepted 3)
+    × (checkRoutine (file (goto2 5 7 ∷ label 7 ∷ label 5 ∷ [])) ≡ Refused (Label 1))
+    × (checkRoutine (file (label 1 ∷ goto 1 ∷ goto2 1 8 ∷ goto 7 ∷ [])) ≡ Refused (Label 3))
+    × (checkRoutine (file (goto 7 ∷ end conditional ∷ [])) ≡ Refused (Nesting 2))
+    × (checkRoutine (file (+a 1 ∷ call 1 ∷ goto 7 ∷ [])) ≡ Refused (Label 3))
+    × (converting (file (goto 7 ∷ [])) (replicate 8 0) (replicate 8 0) ≡ Refused (Label 1))
+    × (runRoutine (file (goto 7 ∷ [])) [] [] 9 .answer .outcome ≡ TurnedAway (Label 1))
+    × (stepRoutine (file (goto 7 ∷ [])) [] [] noState .answer .outcome ≡ TurnedAway (Label 1))
     -- 8 is also about the working buffer, and comes after 11.
     × (converting (file (call 1 ∷ [])) (file (a 1 ∷ a 1 ∷ [])) (file (a 1 ∷ [])) ≡ Refused Room)
     × (absoluting (bytesOf (rec 17 9999 0 ∷ [])) [] ≡ Refused (Far 1))
-    -- 9 comes after the routine's checks 1 to 7 and the base's 1 to 4: a routine with fault 6, a base with fault 4, both with a bad reply.
+    -- 9 comes after the routine's own checks and the base's 1 to 4: a routine with fault 6, a base with fault 4, both with a bad reply.
     × (runRoutine (file (+a 1 ∷ call 1 ∷ [])) (2 ∷ []) [] 9 .answer .outcome ≡ TurnedAway (Skip 1))
     × (runBase (bytesOf (rec 1 1000 0 ∷ [])) (2 ∷ []) [] 9 .answer .outcome ≡ TurnedAway (Field 1))
     -- A refused run writes nothing and has ended.

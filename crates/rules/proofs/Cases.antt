@@ -2,7 +2,7 @@
 -- A row speaks of a file's bytes where it asks what a call answers, and of instructions where it asks what they become.
 use mathlib.Core.Path.{_≡_}
 use Rattle.rules.specs.Words.{ℕ, true, false, List, [], _∷_, length, replicate}
-use Rattle.rules.specs.declared.Refusal.the-variants.{Nesting, Skip}
+use Rattle.rules.specs.declared.Refusal.the-variants.{Nesting, Label, Skip}
 use Rattle.rules.specs.declared.Verdict.the-variants.{Accepted, Refused}
 use Rattle.rules.specs.declared.Status.{Status}
 use Rattle.rules.specs.declared.Status.the-variants.{Ended, StackFull, Spent}
@@ -50,8 +50,8 @@ Cases =
     × (convert (jump 2 ∷ []) ≡ jump 0 ∷ [])
     -- [5]; a1; ##[5] becomes ##2; a1; ##1.
     × (convert (label 5 ∷ a 1 ∷ goto 5 ∷ []) ≡ jump 2 ∷ a 1 ∷ jump 1 ∷ [])
-    -- ##[5][5]; [5]; a1: first record becomes ##0.
-    × (convert (goto2 5 5 ∷ label 5 ∷ a 1 ∷ []) ≡ jump 0 ∷ jump 3 ∷ a 1 ∷ [])
+    -- ##[5][5]; [5]; a1 refused 14 at 1 (C-13).
+    × (checkRoutine (file (goto2 5 5 ∷ label 5 ∷ a 1 ∷ [])) ≡ Refused (Label 1))
     -- +a1; a2 with reply 0: ends after one step, log 1.
     × (runRoutine (file (+a 1 ∷ a 2 ∷ [])) (0 ∷ []) (7 ∷ 7 ∷ 7 ∷ 7 ∷ []) 500 ≡ record { answer = stoppedAfter Ended 1 1 1; log = 1 ∷ 0 ∷ 7 ∷ 7 ∷ [] })
     -- +a1; R##1 refused 6 at 1. R##1; +a1 accepted, length 3.

@@ -20,7 +20,7 @@ table = (refl, refl, refl, refl, for-ever, refl, refl, refl, refl, refl, refl, r
 
 pub checking : Checking
 unfolding computes Checking
-checking = (refl, refl, refl, refl, refl, refl, refl, refl, refl, refl, refl, refl, refl)
+checking = (refl, refl, refl, refl, refl, refl, refl, refl, refl, refl, refl, refl, refl, refl, refl, refl, refl, refl, refl, refl, refl, refl)
 
 pub lowering : Lowering
 unfolding computes Lowering

@@ -2,7 +2,7 @@
 use mathlib.Core.Path.{_≡_}
 use Rattle.rules.specs.Words.{ℕ, zero, suc, _*_, Bool, true, not, cond, _&&_, _||_, Option, none, some, List, [], _∷_, _++_, map, length, drop, replicate, eqb, leb, ltb}
 use Rattle.rules.specs.declared.Refusal.{Refusal}
-use Rattle.rules.specs.declared.Refusal.the-variants.{Nesting, Skip, Growth, Room, Reply, Far}
+use Rattle.rules.specs.declared.Refusal.the-variants.{Nesting, Label, Skip, Growth, Room, Reply, Far}
 use Rattle.rules.specs.declared.Refusal.the-variants as refusal
 use Rattle.rules.specs.declared.Verdict.{Verdict}
 use Rattle.rules.specs.declared.Verdict.the-variants.{Accepted, Refused}
@@ -16,6 +16,7 @@ use Rattle.rules.specs.Instruction.{encode, ops}
 use Rattle.rules.specs.Refusals.{when, whenAt, first, verdict}
 use Rattle.rules.specs.Checks.{recordChecks}
 use Rattle.rules.specs.Nesting.{nesting}
+use Rattle.rules.specs.Labels.{lostGoto}
 use Rattle.rules.specs.Skip.{skip, convertedLength, grown}
 use Rattle.rules.specs.Convert.{convert}
 use Rattle.rules.specs.Relative.{far}
@@ -23,10 +24,10 @@ use Rattle.rules.specs.Stack.{fresh}
 use Rattle.rules.specs.Step.{Mem}
 use Rattle.rules.specs.Run.{Run, run, runs}
 
--- ## The checks of each call, in the paper's order: 1, 2, then 3 or 4, then 5, 6, 7, 11, 8, 9, 10, each where the call has that matter
+-- ## The checks of each call, in the paper's order: 1, 2, then 3 or 4, then 5, 14, 6, 7, 11, 8, 9, 10, each where the call has that matter
 
 unfoldable pub routineChecks : List ℕ → List (Option Refusal)
-routineChecks s = recordChecks Routine s ++ (whenAt Nesting (nesting (ops s)) ∷ whenAt Skip (skip (ops s)) ∷ when (grown (ops s)) Growth ∷ [])
+routineChecks s = recordChecks Routine s ++ (whenAt Nesting (nesting (ops s)) ∷ whenAt Label (lostGoto (ops s)) ∷ whenAt Skip (skip (ops s)) ∷ when (grown (ops s)) Growth ∷ [])
 
 -- 8 room: a buffer under 8 bytes per record written.
 unfoldable pub short : ℕ → List ℕ → Bool

@@ -1,5 +1,5 @@
 -- Records are numbered from 1. The number 0 names no record: it is the answer "there is none", and as a position it means ended.
-use Rattle.rules.specs.Words.{ℕ, zero, suc, Bool, false, cond, Option, none, List, [], _∷_, getElem?, leb}
+use Rattle.rules.specs.Words.{ℕ, zero, suc, Bool, false, cond, Option, none, some, List, [], _∷_, getElem?, leb}
 
 -- Number i of a list.
 unfoldable pub at : {A : Type 0} → List A → ℕ → Option A
@@ -15,6 +15,11 @@ each f i (o ∷ os) = f i o ∷ each f (suc i) os
 unfoldable pub given : ℕ → ℕ → ℕ
 given zero x = 0
 given (suc k) x = x
+
+-- The number that was found, 0 where none was.
+unfoldable pub orZero : Option ℕ → ℕ
+orZero none = 0
+orZero (some k) = k
 
 -- The number after k, where k names a record.
 unfoldable pub past : ℕ → ℕ

@@ -1,7 +1,7 @@
 -- What is turned away: the paper's number and place of each refusal, and how a call's checks follow one another.
 use Rattle.rules.specs.Words.{ℕ, zero, suc, Bool, cond, Option, none, some, List, [], _∷_}
 use Rattle.rules.specs.declared.Refusal.{Refusal}
-use Rattle.rules.specs.declared.Refusal.the-variants.{Ragged, Long, Kind, Field, Nesting, Skip, Growth, Room, Reply, State, Far}
+use Rattle.rules.specs.declared.Refusal.the-variants.{Ragged, Long, Kind, Field, Nesting, Skip, Growth, Room, Reply, State, Far, Label}
 use Rattle.rules.specs.declared.Verdict.{Verdict}
 use Rattle.rules.specs.declared.Verdict.the-variants.{Accepted, Refused}
 
@@ -25,6 +25,7 @@ told Room = no 8 0
 told (Reply i) = no 9 i
 told State = no 10 0
 told (Far i) = no 11 i
+told (Label i) = no 14 i
 
 -- A check finds its refusal, or none: by a test, or at a place where 0 says that there is none.
 unfoldable pub when : Bool → Refusal → Option Refusal

@@ -3,7 +3,7 @@ use Rattle.rules.specs.Words.{ℕ, suc, _+_, _-_, _*_, Bool, true, not, 
 use Rattle.rules.specs.declared.Stack.{Stack}
 use Rattle.rules.specs.declared.Status.{Status}
 use Rattle.rules.specs.declared.Status.the-variants.{Ended, NoReply, LogFull, StackFull}
-use Rattle.rules.specs.Numbers.{at, past, names, moveTo}
+use Rattle.rules.specs.Numbers.{at, orZero, past, names, moveTo}
 use Rattle.rules.specs.Record.{lowByte, highByte}
 use Rattle.rules.specs.Instruction.{Act, outside, push, pop, compare, conditional, loop, Op, act, test, jump, label, goto, goto2, header, separator, end, call, return}
 use Rattle.rules.specs.Labels.{target, target2}
@@ -26,8 +26,8 @@ deed L i (act a) = ask a true (suc i) (suc i)
 deed L i (test v a) = ask a v (suc i) (suc (suc i))
 deed L i (jump k) = leap k
 deed L i (label s) = leap (suc i)
-deed L i (goto s) = leap (target L s)
-deed L i (goto2 s t) = leap (target2 L s t)
+deed L i (goto s) = leap (orZero (target L s))
+deed L i (goto2 s t) = leap (orZero (target2 L s t))
 deed L i (header conditional v a) = ask a v (suc i) (past (armOf L i))
 deed L i (header loop v a) = ask a v (suc i) (past (endOf loop L i))
 deed L i separator = leap (past (endOf conditional L i))

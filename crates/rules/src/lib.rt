@@ -13,6 +13,7 @@ pub enum Refusal {
     Reply(usize),
     State,
     Far(usize),
+    Label(usize),
 }
 
 // What a check, a conversion or a translation answers: how many records there are, or why it is turned away.

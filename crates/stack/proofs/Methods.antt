@@ -7,11 +7,11 @@ use mathlib.Core.Option.{none, some}
 use lib.ListN.{length, getD, set}
 use borrow.Author.Tests.{le-leb, lt-leb, leb-false, eq-eqb, ne-eqb}
 use Rattle.rules.specs.declared.Stack.{Stack}
-use Rattle.rules.specs.Numbers.{names, at}
+use Rattle.rules.specs.Numbers.{orZero, names, at}
 use Rattle.rules.specs.Stack.{stack, full, pushed, without, popped, top, nonempty, equals}
 use Rattle.laws.proofs.Records.{at-zero, at-none, at-getD}
 use Rattle.stack.specs.declared.StackReply.the-variants.{Yes, No, Full}
-use Rattle.stack.specs.Methods.{orZero, said, handed, pushing, popping, comparing}
+use Rattle.stack.specs.Methods.{said, handed, pushing, popping, comparing}
 use Rattle.stack.proofs.Moves.{named}
 
 module _ (s : Stack) (len : length (s .entries) ≡ 96) where

@@ -6,10 +6,6 @@ use Rattle.stack.specs.declared.StackReply.{StackReply}
 use Rattle.stack.specs.declared.StackReply.the-variants.{Yes, No, Full}
 use Rattle.stack.specs.declared.Handed.{Handed}
 
-unfoldable pub orZero : Option ℕ → ℕ
-orZero none = 0
-orZero (some t) = t
-
 unfoldable pub said : Bool → StackReply
 said true = Yes
 said false = No

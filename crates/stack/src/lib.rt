@@ -3,7 +3,8 @@ use rules::Stack;
 ghost use mathlib.Core.Path.{_≡_};
 ghost use Rattle.rules.specs.Numbers.{names};
 ghost use Rattle.rules.specs.Stack.{fresh, top};
-ghost use Rattle.stack.specs.Methods.{orZero, pushing, popping, comparing};
+ghost use Rattle.rules.specs.Numbers.{orZero};
+ghost use Rattle.stack.specs.Methods.{pushing, popping, comparing};
 
 // The counter stack at work. A method stands in the crate of its type, so the machine has this one.
 pub struct Counters {

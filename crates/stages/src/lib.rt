@@ -1,11 +1,11 @@
 // The four stages, by their names.
-mod labels;
+mod unlabel;
 
 use calls::expand_calls;
 use conditionals::expand_conditionals;
-use labels::expand_labels;
 use loops::expand_loops;
 use places::Stage;
+use unlabel::expand_labels;
 ghost use Rattle.places.specs.Groups.{staged};
 ghost use Rattle.places.specs.Writing.{Fitted};
 

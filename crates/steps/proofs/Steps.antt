@@ -12,11 +12,11 @@ use borrow.Author.Tests.{le-leb, lt-leb, lt-ltb, le-ltb, eq-eqb, ne-eqb}
 use Rattle.rules.specs.declared.Stack.{Stack}
 use Rattle.rules.specs.declared.Status.the-variants.{NoReply, LogFull, StackFull}
 use Rattle.rules.specs.Record.{lowByte, highByte}
-use Rattle.rules.specs.Numbers.{names}
+use Rattle.rules.specs.Numbers.{orZero, names}
 use Rattle.rules.specs.Stack.{full, pushed, without, popped, top, nonempty, equals}
 use Rattle.rules.specs.Step.{Mem, withStack, go, did, stops, logging, reply, noReplyLeft, logIsFull, perform, agree, branch, leaving}
 use Rattle.stack.specs.declared.StackReply.the-variants.{Yes, Full}
-use Rattle.stack.specs.Methods.{orZero, said, handed, pushing, popping, comparing}
+use Rattle.stack.specs.Methods.{said, handed, pushing, popping, comparing}
 use Rattle.deeds.specs.declared.Own.{Own}
 use Rattle.deeds.specs.declared.Own.the-variants.{Push, Pop}
 use Rattle.deeds.specs.declared.Deed.the-variants.{Ask, Change, Compare, Return}

@@ -7,8 +7,6 @@ use crate::print::named;
 use crate::print::word;
 use lower::convert;
 use partners::Sort;
-use partners::target;
-use partners::target2;
 use rules::Verdict;
 use tables::fill_headers;
 use tables::fill_stops;
@@ -121,8 +119,8 @@ fn partner(what: u8, s: &[u8], i: usize) -> usize {
 
 fn found(what: u8, s: &[u8], x: u16, y: u16) -> usize {
     match what {
-        11 => target(s, x),
-        12 => target2(s, x, y),
+        11 => labels::place_of(labels::target(s, x)),
+        12 => labels::place_of(labels::target2(s, x, y)),
         _ => partner(what, s, x as usize),
     }
 }

@@ -1,6 +1,6 @@
 -- The one number that a step needs besides its record's own fields: where a goto or a bracket leads.
 use Rattle.rules.specs.Words.{ℕ, suc, List, [], _∷_, getD}
-use Rattle.rules.specs.Numbers.{past}
+use Rattle.rules.specs.Numbers.{orZero, past}
 use Rattle.rules.specs.Instruction.{conditional, loop, Op, ops}
 use Rattle.rules.specs.Labels.{target, target2}
 use Rattle.rules.specs.Partners.{endOf, armOf, headerOf}
@@ -11,7 +11,7 @@ use Rattle.records.specs.Reading.{recAt}
 unfoldable pub places : List Op → ℕ → ℕ → ℕ → List ℕ
 places L i x y =
     0 ∷ 0 ∷ 0 ∷ 0 ∷ 0 ∷ 0
-    ∷ target L x ∷ target2 L x y
+    ∷ orZero (target L x) ∷ orZero (target2 L x y)
     ∷ past (armOf L i) ∷ past (armOf L i) ∷ past (endOf conditional L i) ∷ suc i
     ∷ past (endOf loop L i) ∷ past (endOf loop L i) ∷ headerOf loop L i ∷ []
 

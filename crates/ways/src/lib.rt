@@ -1,7 +1,8 @@
 // The one number that a step needs besides its record's own fields: where a goto or a bracket leads. It is looked up before the first step.
+use labels::place_of;
+use labels::target;
+use labels::target2;
 use partners::Sort;
-use partners::target;
-use partners::target2;
 use records::kind_at;
 use records::x_at;
 use records::y_at;
@@ -31,8 +32,8 @@ fn place(s: &[u8], i: usize, stops: &[u16], ends: &[u16], headers: &[u16]) -> us
 {
     let kind = kind_at(s, i);
     match kind {
-        6 => target(s, x_at(s, i)),
-        7 => target2(s, x_at(s, i), y_at(s, i)),
+        6 => place_of(target(s, x_at(s, i))),
+        7 => place_of(target2(s, x_at(s, i), y_at(s, i))),
         8..=9 => past_record(look(stops, i)),
         10 => past_record(look(stops, i)),
         11 => i + 1,

@@ -40,14 +40,14 @@ pub const AREAS: [Area; 11] = [
         name: "convert",
         cases: 300_000,
         compare_once: compare_convert,
-        refusals: &[1, 2, 3, 4, 5, 6, 7, 8],
+        refusals: &[1, 2, 3, 4, 5, 6, 7, 8, 14],
         statuses: NO_STATUS,
     },
     Area {
         name: "list",
         cases: 60_000,
         compare_once: compare_list,
-        refusals: &[1, 2, 3, 4, 5, 6, 7, 8],
+        refusals: &[1, 2, 3, 4, 5, 6, 7, 8, 14],
         statuses: NO_STATUS,
     },
     Area {
@@ -68,7 +68,7 @@ pub const AREAS: [Area; 11] = [
         name: "run_routine",
         cases: 130_000,
         compare_once: compare_run_routine,
-        refusals: &[1, 2, 3, 4, 5, 6, 7, 9],
+        refusals: &[1, 2, 3, 4, 5, 6, 7, 9, 14],
         statuses: ANY_STATUS,
     },
     Area {
@@ -82,7 +82,7 @@ pub const AREAS: [Area; 11] = [
         name: "step_routine",
         cases: 150_000,
         compare_once: compare_step_routine,
-        refusals: &[1, 2, 3, 4, 5, 6, 7, 9, 10],
+        refusals: &[1, 2, 3, 4, 5, 6, 7, 9, 10, 14],
         statuses: ANY_STATUS,
     },
     Area {

@@ -9,6 +9,7 @@
 #![forbid(unsafe_code)]
 
 pub mod areas;
+pub mod gotos;
 pub mod lent;
 pub mod machines;
 pub mod programs;

@@ -2,6 +2,7 @@
 
 use ordinary::{bytes_of, kind, own, Record, BASE_LIMIT, RECORD};
 
+use crate::gotos::astray;
 use crate::random::Random;
 use crate::routines::{near, well_built};
 
@@ -24,7 +25,11 @@ pub fn any_routine(random: &mut Random) -> Vec<u8> {
         1..=4 => too_long(random, 512),
         5..=199 => raw(random),
         200..=299 => crate::routines::brackets(random),
-        300..=1_149 => sound_routine(random),
+        300..=399 => {
+            let size = some_size(random).min(500);
+            bytes_of(&astray(random, size))
+        }
+        400..=1_249 => sound_routine(random),
         _ => {
             let mut bytes = sound_routine(random);
             damage(random, &mut bytes);

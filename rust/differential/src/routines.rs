@@ -2,6 +2,7 @@
 
 use ordinary::{bytes_of, kind, Record, BASE_LIMIT};
 
+use crate::gotos::give_targets;
 use crate::random::Random;
 
 /// What an open item may take next.
@@ -36,8 +37,8 @@ impl Style {
     }
 }
 
-/// A routine of this many records: one body, with no plain test before a kind
-/// that adds places.
+/// A routine of this many records: one body, every goto with a target, and no plain
+/// test before a kind that adds places.
 pub fn well_built(random: &mut Random, size: usize) -> Vec<Record> {
     let mut style = Style::any(random, size);
     let mut open: Vec<Open> = Vec::new();
@@ -59,7 +60,13 @@ pub fn well_built(random: &mut Random, size: usize) -> Vec<Record> {
         };
         records.push(record);
     }
+    give_targets(random, &mut records);
     records
+}
+
+/// Whether a kind adds places in the base.
+pub fn is_adding(kind: u8) -> bool {
+    matches!(kind, 8 | 9 | 12 | 13 | 15 | 16)
 }
 
 fn is_test(kind: u8) -> bool {

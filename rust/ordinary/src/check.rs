@@ -1,8 +1,10 @@
-//! Refusals 1 to 7, in the paper's order.
+//! Refusals 1 to 7 and 14, in the paper's order; "14 label [...], after 5 and before
+//! 6" (request C-13).
 
 use crate::nesting::misfit;
 use crate::record::{kind, own, Record, RECORD};
 use crate::refusal::{Reason, Refusal};
+use crate::stages::labels::Labels;
 use crate::{BASE_LIMIT, NUMBER_LIMIT, ROUTINE_LIMIT};
 
 /// How a record stands to a notation: "3 first within it".
@@ -22,11 +24,14 @@ impl Fit {
     }
 }
 
-/// Checks 1 to 7 of a routine; answers its records.
+/// Checks 1 to 5, 14, 6 and 7 of a routine; answers its records.
 pub fn check_routine(bytes: &[u8]) -> Result<Vec<Record>, Refusal> {
     let records = routine_records(bytes)?;
     if let Some(place) = misfit(&records) {
         return Err(Refusal::at(Reason::Nesting, place));
+    }
+    if let Some(place) = Labels::of(&records).lowest_lost_goto(&records) {
+        return Err(Refusal::at(Reason::Label, place));
     }
     if let Some(place) = lowest_bad_skip(&records) {
         return Err(Refusal::at(Reason::Skip, place));

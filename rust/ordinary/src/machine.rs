@@ -294,8 +294,8 @@ impl Routine {
         let labels = Labels::of(&records);
         let mut other = partners(&records);
         for (other, &record) in other[1..].iter_mut().zip(&records) {
-            if matches!(record.kind, kind::GOTO | kind::CHAINED_GOTO) {
-                *other = labels.target(record);
+            if let Some(target) = labels.target(record) {
+                *other = target;
             }
         }
         Routine { records, other }

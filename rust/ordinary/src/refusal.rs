@@ -29,6 +29,8 @@ pub enum Reason {
     Text = 12,
     /// "Unknown name or thousandth label", or a list of names that is none.
     Name = 13,
+    /// "Label": a goto whose target is not there (request C-13).
+    Label = 14,
 }
 
 /// A reason and its place, 0 where the paper gives none.

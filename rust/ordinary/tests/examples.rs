@@ -51,5 +51,5 @@ fn texts_there_and_back() {
         assert_eq!(read(&text[..count], &list), routine, "{name}");
         seen += 1;
     }
-    assert!(seen >= 12, "{seen} texts");
+    assert!(seen >= 13, "{seen} texts");
 }

@@ -21,5 +21,5 @@ fn every_example_lists_as_its_file_says() {
             seen += 1;
         }
     }
-    assert!(seen >= 18, "{seen} routines");
+    assert!(seen >= 19, "{seen} routines");
 }

@@ -87,15 +87,83 @@ fn a_jump_past_the_end_becomes_zero() {
 #[test]
 fn labels_and_gotos() {
     assert_eq!(written_base("[5]; a1; ##[5]"), "##2; a1; ##1");
-    assert_eq!(written_base("##[5][5]; [5]; a1"), "##0; ##3; a1");
     assert_eq!(written_base("##[5][5]; [5]; a1; [5]"), "##4; ##3; a1; ##0");
     assert_eq!(
         written_base("##[5][6]; [6]; [5]; [6]"),
         "##4; ##3; ##4; ##0"
     );
-    assert_eq!(written_base("##[5][6]; [6]; [5]"), "##0; ##3; ##0");
-    assert_eq!(written_base("##[7]; [6]; [5]"), "##0; ##3; ##0");
     assert_eq!(written_base("a1; [5]; [5]; ##[5]"), "a1; ##3; ##4; ##2");
+}
+
+// Gotos to nowhere (request C-13)
+
+/// The refusal that every call that checks a routine gives, with nothing written.
+fn refused_everywhere(text: &str) -> Refusal {
+    let routine = seq(text);
+    let why = check_routine(&routine).expect_err(text);
+    let state = State::fresh(1);
+    let mut lent = [7; 8 * 64];
+    let mut work = lent;
+    assert_eq!(convert(&routine, &mut lent, &mut work), Err(why), "{text}");
+    assert_eq!(list(&routine, &mut lent), Err(why), "{text}");
+    assert_eq!(run_routine(&routine, &[], &mut lent, 9), Err(why), "{text}");
+    let stepped = step_routine(&routine, &[], &mut lent, state);
+    assert_eq!(stepped, Err(why), "{text}");
+    assert_eq!((lent, work), ([7; 512], [7; 512]), "{text}");
+    why
+}
+
+#[test]
+fn a_goto_to_nowhere_is_turned_away() {
+    for (text, place) in [
+        ("##[5][5]; [5]; a1", 1),
+        ("##[7]", 1),
+        ("##[7]; [6]; [5]", 1),
+        ("##[5][6]; [6]; [5]", 1),
+        ("##[5][7]; [7]; [5]", 1),
+        ("[5]; ##[5]; ##[5][6]", 3),
+        ("[6]; ##[5][6]; [6]", 2),
+        ("[1]; ##[1]; ##[2]; ##[1][1]; ##[3]", 3),
+        // Reached or not, inside a block or not.
+        ("##0; a1; ##[9]", 3),
+        ("+a1{; ##[9]; }{; [8]; }", 2),
+        // A goto, a chained goto and an action are no labels.
+        ("a5; ##[5]; ##[6][5]; ##5", 2),
+    ] {
+        assert_eq!(refused_everywhere(text), refused(Reason::Label, place));
+    }
+    for text in [
+        "##[5][5]; [5]; [5]",
+        "[5]; ##[5][6]; [6]",
+        "+a1{; ##[9]; }{; [9]; }",
+        "[999]; ##[999]",
+    ] {
+        assert!(check_routine(&seq(text)).is_ok(), "{text}");
+    }
+}
+
+#[test]
+fn a_goto_to_nowhere_comes_after_nesting_and_before_skip() {
+    let both = refused_everywhere("##[7]; }");
+    assert_eq!(both, refused(Reason::Nesting, 2));
+    let both = refused_everywhere("+a1; R##1; ##[7]");
+    assert_eq!(both, refused(Reason::Label, 3));
+    let mut grown = records("##R").unwrap().repeat(511);
+    grown.extend(records("##[7]").unwrap());
+    assert_eq!(
+        check_routine(&bytes_of(&grown)),
+        Err(refused(Reason::Label, 512))
+    );
+    let mut field = seq("##[7]; a1");
+    field[10] = 0;
+    assert_eq!(check_routine(&field), Err(refused(Reason::Field, 2)));
+    // Before 8, 9 and 10.
+    let lost = seq("##[7]");
+    let label = refused(Reason::Label, 1);
+    assert_eq!(convert(&lost, &mut [], &mut []), Err(label));
+    assert_eq!(run_routine(&lost, &[2], &mut [], 1), Err(label));
+    let unsound = State::fresh(2);
+    assert_eq!(step_routine(&lost, &[], &mut [], unsound), Err(label));
 }
 
 #[test]
@@ -446,7 +514,7 @@ fn one_step_of_each_kind() {
         ("[3]; a1", 1, &[], 2),
         ("a1; [3]", 2, &[], 0),
         ("##[3]; [4]; [3]", 1, &[], 3),
-        ("##[5]; [4]; [3]", 1, &[], 0),
+        ("[3]; a1; ##[3]", 3, &[], 1),
         ("##[3][4]; [4]; [3]; [4]", 1, &[], 4),
         ("+a1{; a1; }{; a2; }", 1, &[1], 2),
         ("+a1{; a1; }{; a2; }", 1, &[0], 4),

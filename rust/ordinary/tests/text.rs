@@ -305,6 +305,9 @@ fn every_record_is_written() {
     );
     is_written_as("", "");
     is_written_as("}; *}; +a2{", "}; *}; +x{");
+    // Whether a label is there is not looked at, in reading either.
+    is_written_as("##[7]", "##[L7]");
+    is_read_as("##[seven][five]", "##[1][2]");
 }
 
 #[test]

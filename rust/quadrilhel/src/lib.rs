@@ -52,7 +52,7 @@ pub const NAME_LIMIT: usize = 999;
 /// two, and no instruction is longer than a sign, a name of 16 and `{*`.
 pub const TEXT_BYTES: usize = 19 * ROUTINE_LIMIT + 2 * (ROUTINE_LIMIT - 1);
 
-/// Checks a routine (refusals 1 to 7) and answers how many records it has.
+/// Checks a routine (refusals 1 to 7 and 14) and answers how many records it has.
 pub fn check_routine(routine: &[u8]) -> Result<usize, Refusal> {
     count(c::check_routine(routine))
 }

@@ -70,7 +70,7 @@ impl Ran {
 /// Runs a routine from its start, for at most `budget` steps.
 ///
 /// Each outside action uses one byte of `replies` (0 no, 1 yes) and puts its
-/// number into `log` in two bytes, low first. Refusals 1 to 7 and 9; a refused
+/// number into `log` in two bytes, low first. Refusals 1 to 7, 14 and 9; a refused
 /// run does not write to the log.
 pub fn run_routine(
     routine: &[u8],
@@ -91,7 +91,7 @@ pub fn run_base(base: &[u8], replies: &[u8], log: &mut [u8], budget: u64) -> Res
 /// status is [`Status::BudgetSpent`] if the step was taken and did not end.
 ///
 /// Replies and log are counted from their first byte in every call. Refusals 1
-/// to 7, 9 and 10; the caller still holds the state if the step is refused.
+/// to 7, 14, 9 and 10; the caller still holds the state if the step is refused.
 pub fn step_routine(
     routine: &[u8],
     replies: &[u8],

@@ -65,6 +65,11 @@ pub enum Refusal {
         /// The first such record.
         record: u32,
     },
+    /// 14: a goto whose target is not there.
+    Label {
+        /// The lowest such goto.
+        record: u32,
+    },
     /// An answer that this crate has no name for, given as the library gave it.
     /// It means that the crate and the library were built from different trees.
     Unknown {
@@ -95,6 +100,7 @@ impl Refusal {
             12 => Refusal::Text { byte: place },
             13 if place == 0 => Refusal::Names,
             13 => Refusal::Name { byte: place },
+            14 => Refusal::Label { record },
             _ => Refusal::Unknown { number, place },
         })
     }
@@ -115,6 +121,7 @@ impl Refusal {
             Refusal::Far { .. } => 11,
             Refusal::Text { .. } => 12,
             Refusal::Names | Refusal::Name { .. } | Refusal::Unnamed { .. } => 13,
+            Refusal::Label { .. } => 14,
             Refusal::Unknown { number, .. } => number,
         }
     }
@@ -127,7 +134,8 @@ impl Refusal {
             | Refusal::Nesting { record }
             | Refusal::Skip { record }
             | Refusal::Far { record }
-            | Refusal::Unnamed { record } => record,
+            | Refusal::Unnamed { record }
+            | Refusal::Label { record } => record,
             Refusal::Reply { byte } | Refusal::Text { byte } | Refusal::Name { byte } => byte,
             Refusal::Unknown { place, .. } => place,
             Refusal::Ragged
@@ -226,6 +234,15 @@ impl fmt::Display for Refusal {
                 "the action of record {record} has no proper name in the list of names: give \
                  the list an entry of 1 to 16 letters or digits at the action's number"
             ),
+            Refusal::Label { record } => write!(
+                f,
+                "the label that the goto at record {record} names is misspelt or was removed: \
+                 correct the goto, or put the label back before the record that it should lead \
+                 to. Of two labels, ##[s][t], the second must stand behind the leftmost first \
+                 one. A label that is put in must not stand directly behind a test, which would \
+                 skip it; and raise every ##k and R##k that names a record behind it. If the \
+                 routine is to end there, write ##0 in place of the goto"
+            ),
             Refusal::Unknown { number, place } => write!(
                 f,
                 "the library gave an answer that this crate does not know (number {number}, \
@@ -243,7 +260,7 @@ mod tests {
 
     #[test]
     fn numbers_and_places_come_back() {
-        for number in (1..=13).chain([99]) {
+        for number in (1..=14).chain([99]) {
             let refusal = Refusal::from_numbers(number, 7).expect("not 0");
             assert_eq!(refusal.number(), number);
             let has_place = ![1, 2, 7, 8, 10].contains(&number);
@@ -258,7 +275,7 @@ mod tests {
 
     #[test]
     fn every_refusal_says_what_to_do() {
-        let mut all: Vec<Refusal> = (1..=13)
+        let mut all: Vec<Refusal> = (1..=14)
             .chain([99])
             .filter_map(|number| Refusal::from_numbers(number, 31))
             .collect();
@@ -270,5 +287,7 @@ mod tests {
         }
         let skip = Refusal::Skip { record: 31 }.to_string();
         assert!(skip.starts_with("the test at record 31 stands directly before a block"));
+        let label = Refusal::Label { record: 31 }.to_string();
+        assert!(label.starts_with("the label that the goto at record 31 names is misspelt"));
     }
 }

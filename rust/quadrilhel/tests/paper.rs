@@ -89,6 +89,30 @@ fn small_cases() {
 }
 
 #[test]
+fn a_goto_to_nowhere() {
+    let lost = Refusal::Label { record: 2 };
+    let routine = bytes(&[(5, 4), (6, 5)]);
+    assert_eq!(check_routine(&routine), Err(lost));
+    assert_eq!(converted(&routine), Err(lost));
+    assert_eq!(listing(&routine), Err(lost));
+    assert_eq!(run_routine(&routine, &[], &mut [], 9), Err(lost));
+    let stepped = step_routine(&routine, &[], &mut [], State::start(2));
+    assert_eq!(stepped, Err(lost));
+    // ##[5][5]; [5]; a1, and the same with a second [5].
+    let mut chained = bytes(&[(7, 5), (5, 5), (1, 1)]);
+    chained[4] = 5;
+    assert_eq!(converted(&chained), Err(Refusal::Label { record: 1 }));
+    chained.extend(bytes(&[(5, 5)]));
+    let base = bytes(&[(4, 4), (4, 3), (1, 1), (4, 0)]);
+    assert_eq!(converted(&chained), Ok(base));
+    // After 5, before 6.
+    let nesting = bytes(&[(6, 5), (11, 0)]);
+    assert_eq!(check_routine(&nesting), Err(Refusal::Nesting { record: 2 }));
+    let skip = bytes(&[(2, 1), (15, 1), (6, 5)]);
+    assert_eq!(check_routine(&skip), Err(Refusal::Label { record: 3 }));
+}
+
+#[test]
 fn relative_jumps() {
     let base = bytes(&[(4, 3), (1, 1), (2, 2)]);
     let mut out = vec![0; 24];

@@ -37,6 +37,7 @@ fn a_typed_routine_there_and_back() {
 
 #[test]
 fn labels_are_numbered_as_they_come_and_written_so() {
+    // The second label stands before the first: for check_routine, not for the reader.
     let routine = typed("##[out][in]; [in]; !; [out]", &list()).expect("a text");
     let text = as_text(&routine, &list()).expect("named");
     assert_eq!(text, "##[L1][L2]; [L2]; !; [L1]");

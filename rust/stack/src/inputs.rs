@@ -25,8 +25,11 @@ pub struct Input {
 pub fn routines() -> Vec<Input> {
     let first_arms = nested("+a1{", "}{; }", 170);
     let second_arms = nested("+a1{; }{", "}", 170);
-    let gotos = nested("##[1][2]; ##[3]", "[2]; [1]", 128);
-    let mixed = nested("+a1{; -a2{*; R##7", "##[1]; *}; }", 85);
+    let gotos = nested("##[1][2]; ##[2]", "[1]; [2]", 128);
+    let mut lost = repeated("[1]", 511);
+    lost.extend(seq("##[1][2]"));
+    let mut mixed = nested("+a1{; -a2{*; R##7", "##[1]; *}; }", 85);
+    mixed.extend(seq("[1]"));
     let mut misfit = repeated("-a1{*", 511);
     misfit.extend(seq("}"));
     let records: Vec<(&str, Vec<Record>)> = vec![
@@ -34,6 +37,7 @@ pub fn routines() -> Vec<Input> {
         ("512 plain actions", repeated("a1", 512)),
         ("512 labels", repeated("[1]", 512)),
         ("gotos and labels", gotos),
+        ("511 labels and a goto to nowhere", lost),
         ("256 nested blocks", nested("+a1{", "}", 256)),
         ("256 nested loops", nested("-a1{*", "*}", 256)),
         ("170 blocks nested in first arms", first_arms),

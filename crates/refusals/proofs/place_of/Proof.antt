@@ -8,7 +8,7 @@ unfolding told
 place-of-spec =
     tie.close
     (tie.spec
-    (λ c. search needs) (λ c. search needs) (λ c. search needs) (λ c. search needs) (λ c. search needs) (λ c. search needs) (λ c. search needs) (λ c. search needs) (λ c. search needs) (λ c. search needs) (λ c. search needs)
+    (λ c. search needs) (λ c. search needs) (λ c. search needs) (λ c. search needs) (λ c. search needs) (λ c. search needs) (λ c. search needs) (λ c. search needs) (λ c. search needs) (λ c. search needs) (λ c. search needs) (λ c. search needs)
     (λ c. rw (c .enum-told .given .1))
     (λ c. rw (c .enum-told2 .given .1))
     (λ c. rw (c .before .refusal .given .1))
@@ -19,4 +19,5 @@ place-of-spec =
     (λ c. rw (c .enum-told4 .given .1))
     (λ c. rw (c .before .refusal5 .given .1))
     (λ c. rw (c .enum-told5 .given .1))
-    (λ c. rw (c .before .refusal6 .given .1)))
+    (λ c. rw (c .before .refusal6 .given .1))
+    (λ c. rw (c .before .refusal7 .given .1)))

@@ -3,7 +3,7 @@ use Prim.Native.Nat.{_≤_}
 use native.Mathlib.Omega.{arith}
 use native.Mathlib.Numerals.{add-one}
 use Rattle.rules.specs.Numbers.{past}
-use Rattle.rules.specs.Labels.{target}
+use Rattle.labels.proofs.Targets.{placed}
 use Rattle.ways.specs.Places.{places, placeFor, placeAt}
 use Rattle.ways.proofs.Places.{in-file, place-header, place-loop, place-below, place-above}
 use Rattle.ways.proofs.Ways.{arm-at, end-at, loop-at, header-at}
@@ -19,14 +19,14 @@ past-own c =
 gotos : tie.Need-returns
 unfolding placeAt placeFor places
 gotos c =
-    let e = sym (c .before .before .before .kind-at .ensures) ∙ c .before .before .match .keys1 in
-    rw e (c .target .ensures ∙ ap (target _) (c .before .x-at .ensures))
+    let e = sym (c .before .before .before .before .kind-at .ensures) ∙ c .before .before .before .match .keys1 in
+    rw e (placed _ (c .place-of .ensures) (c .before .target .ensures) ∙ rw (c .before .before .x-at .ensures))
 
 gotos-2 : tie.Need-returns-2
 unfolding placeAt placeFor places
 gotos-2 c =
-    let e = sym (c .before .before .before .before .kind-at .ensures) ∙ c .before .before .before .match .keys2 in
-    rw e (c .target2 .ensures ∙ rw (c .before .before .x-at2 .ensures, c .before .y-at .ensures))
+    let e = sym (c .before .before .before .before .before .kind-at .ensures) ∙ c .before .before .before .before .match .keys2 in
+    rw e (placed _ (c .place-of2 .ensures) (c .before .target2 .ensures) ∙ rw (c .before .before .before .x-at2 .ensures, c .before .before .y-at .ensures))
 
 separates : tie.Need-returns-3
 unfolding placeAt placeFor places
@@ -87,7 +87,7 @@ pub place-spec : {M : Type 1} → statement M
 place-spec =
     tie.close
     (tie.spec
-    (λ c κs. search needs) (λ c κs. search needs) (λ c κs. search needs) (λ c κs. search needs)
+    (λ c κs. search needs) (λ c κs. search needs) (λ c κs. search needs) (λ c κs. search needs) (λ c κs. search needs) (λ c κs. search needs)
     (λ c κs. search needs) (λ c κs. search needs) (λ c κs. search needs) (λ c κs. search needs) past-own
     (λ c κs. search needs) (λ c. search needs) (λ c κs. search needs) (λ c κs. search needs) (λ c κs. search needs)
     (λ c κs. search needs) gotos gotos-2 separates ends loop-ends headers loop-headers lower higher)

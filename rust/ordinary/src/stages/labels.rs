@@ -25,26 +25,36 @@ impl Labels {
         }
     }
 
-    /// Where a goto leads, 0 if it has no target or is no goto.
-    pub fn target(&self, record: Record) -> usize {
+    /// Where a goto leads; none if it has no target or is no goto: "a target lookup
+    /// that finds nothing should say so to whoever asked" (request C-13).
+    pub fn target(&self, record: Record) -> Option<usize> {
         let leftmost = || self.first_after(record.x, 0);
         match record.kind {
-            kind::GOTO => leftmost().unwrap_or(0),
-            kind::CHAINED_GOTO => leftmost()
-                .and_then(|place| self.first_after(record.y, place))
-                .unwrap_or(0),
-            _ => 0,
+            kind::GOTO => leftmost(),
+            kind::CHAINED_GOTO => leftmost().and_then(|place| self.first_after(record.y, place)),
+            _ => None,
         }
+    }
+
+    /// "Place: the lowest such goto" (request C-13).
+    pub fn lowest_lost_goto(&self, routine: &[Record]) -> Option<usize> {
+        let is_lost =
+            |&(_, record): &(usize, Record)| is_goto(record.kind) && self.target(record).is_none();
+        numbered(routine).find(is_lost).map(|(place, _)| place)
     }
 }
 
-/// "At place i, [s] becomes ##(i+1); a goto becomes ##m with m its target."
+fn is_goto(kind: u8) -> bool {
+    matches!(kind, kind::GOTO | kind::CHAINED_GOTO)
+}
+
+/// "At place i, [s] becomes ##(i+1); a goto becomes ##m with m its target." Every goto
+/// has one: the records were checked.
 pub fn lower(routine: &[Record]) -> Vec<Record> {
     let labels = Labels::of(routine);
     let lower_one = |(i, record): (usize, Record)| match record.kind {
         kind::LABEL => Record::jump(i + 1),
-        kind::GOTO | kind::CHAINED_GOTO => Record::jump(labels.target(record)),
-        _ => record,
+        _ => labels.target(record).map_or(record, Record::jump),
     };
     numbered(routine).map(lower_one).collect()
 }

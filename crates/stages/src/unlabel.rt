@@ -1,6 +1,7 @@
 // Stage 1: labels (3.6).
-use partners::target;
-use partners::target2;
+use labels::place_of;
+use labels::target;
+use labels::target2;
 use places::Stage;
 use records::kind_at;
 use records::put_record;
@@ -22,8 +23,8 @@ fn write_group(s: &[u8], i: usize, out: &mut [u8]) -> usize
     let y = y_at(s, i);
     match kind {
         5 => put_record(out, 4, (i + 1) as u16, 0),
-        6 => put_record(out, 4, target(s, x) as u16, 0),
-        7 => put_record(out, 4, target2(s, x, y) as u16, 0),
+        6 => put_record(out, 4, place_of(target(s, x)) as u16, 0),
+        7 => put_record(out, 4, place_of(target2(s, x, y)) as u16, 0),
         _ => put_record(out, kind, x, y),
     }
 }

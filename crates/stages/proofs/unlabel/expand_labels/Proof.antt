@@ -5,8 +5,8 @@ use Rattle.places.specs.declared.Stage.the-variants.{Labels}
 use Rattle.places.specs.Groups.{group}
 use Rattle.places.proofs.Writing.{fit-sizes, fit-more}
 use Rattle.places.proofs.Groups.{Written, staged-long, none-written, one-written, all-written}
-use Rattle.stages.proofs.labels.expand_labels.Statement.{statement}
-use Rattle.stages.proofs.labels.expand_labels.Tie as tie
+use Rattle.stages.proofs.unlabel.expand_labels.Statement.{statement}
+use Rattle.stages.proofs.unlabel.expand_labels.Tie as tie
 
 abbrev Inv-loop : tie.InvT-loop
 Inv-loop s out₀ n at₀ i₀ out at i = Written Labels s out₀ out at i

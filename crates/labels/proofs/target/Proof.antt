@@ -1,7 +1,7 @@
 use borrow.Author.Needs.{needs}
 use Rattle.rules.specs.Labels as labels
-use Rattle.partners.proofs.labels.target.Statement.{statement}
-use Rattle.partners.proofs.labels.target.Tie as tie
+use Rattle.labels.proofs.target.Statement.{statement}
+use Rattle.labels.proofs.target.Tie as tie
 
 pub target-spec : {M : Type 1} → statement M
 unfolding labels.target
