@@ -1,14 +1,16 @@
--- The rows of the kinds that the code takes together, and of those that are no instruction.
+-- The actions of a record, where it stands in its file, and the kinds that are no instruction.
 use mathlib.Core.Path.{_≡_, refl, sym, _∙_}
 use Prim.Native.Nat.{ℕ, suc, _+_, _-_, _≤_, _<_}
 use native.Mathlib.Omega.{arith}
 use mathlib.Core.Bool.{Bool, true, false}
 use mathlib.Core.List.{List}
 use lib.ListN.{length, getD, List·getD-eq-default}
-use lib.Dec.{eqb}
-use borrow.Author.Tests.{eqb-true, eqb-false, eq-eqb, ne-eqb}
+use lib.Dec.{leb}
+use borrow.Author.Tests.{leb-true, leb-false, ne-eqb}
+use Rattle.rules.specs.Record.{count}
+use Rattle.records.specs.Reading.{recAt}
+use Rattle.ways.proofs.Places.{from-one, in-file}
 use Rattle.deeds.specs.declared.Own.the-variants.{Push, Pop}
-use Rattle.deeds.specs.declared.Deed.{Deed}
 use Rattle.deeds.specs.declared.Deed.the-variants.{Leap, Ask, Change, Compare, Return}
 use Rattle.deeds.specs.Deeds.{asking, rows, placeIn, deedOf}
 
@@ -36,25 +38,29 @@ module _ (x y t f : ℕ) where
 pub two-more : (i : ℕ) → i + 2 ≡ suc (suc i)
 two-more i = omega arith
 
-pub past-five : (k : ℕ) → 1 ≤ k → ¬ (k ≡ 1) → ¬ (k ≡ 2) → ¬ (k ≡ 3) → ¬ (k ≡ 4) → ¬ (k ≡ 5) → 6 ≤ k
-past-five k l a b c d e = omega arith
+-- A file has the record whose kind was read, if that is not 0.
+module _ (s : List ℕ) (i : ℕ) {kind : ℕ} (e : kind ≡ recAt s i .kind) (j : ℕ) (f : kind ≡ suc j) where
+  kind-above : 0 < recAt s i .kind
+  kind-above = omega arith
 
+  pub from-1 : 1 ≤ i
+  from-1 = from-one s i kind-above
+
+  pub to-count : i ≤ count s
+  to-count = in-file s i kind-above
+
+-- A kind that is none of 1 to 16 is no instruction.
 module _ (s ps : List ℕ) (i next k : ℕ) where
-  two : (j : ℕ) (d : Deed) → d ≡ deedOf s ps i next j → d ≡ deedOf s ps i next (j + 1) → j ≤ k → k ≤ j + 1 → d ≡ deedOf s ps i next k
-  two j d p q l h = by (eqb k j) refl
+  above : (n : ℕ) → n ≤ k → ¬ (k ≡ n) → suc n ≤ k
+  above n l z = omega arith
+
+  pub row-none : ¬ (k ≡ 1) → ¬ (k ≡ 2) → ¬ (k ≡ 3) → ¬ (k ≡ 4) → ¬ (k ≡ 5) → ¬ (k ≡ 6) → ¬ (k ≡ 7) → ¬ (k ≡ 8) → ¬ (k ≡ 9) → ¬ (k ≡ 10) → ¬ (k ≡ 11) → ¬ (k ≡ 12) → ¬ (k ≡ 13) → ¬ (k ≡ 14) → ¬ (k ≡ 15) → ¬ (k ≡ 16)
+      → Leap 0 ≡ deedOf s ps i next k
+  unfolding deedOf rows
+  row-none a1 a2 a3 a4 a5 a6 a7 a8 a9 a10 a11 a12 a13 a14 a15 a16 = by (leb 1 k) refl
     where
-      by : (b : Bool) → eqb k j ≡ b → d ≡ deedOf s ps i next k
-      by true e = rw (eqb-true k j e) p
-      by false e = let z : k ≡ j + 1 = omega (arith, eqb-false k j e) in rw z q
-
-  pub row-gotos : 6 ≤ k → k ≤ 7 → Leap (placeIn ps i) ≡ deedOf s ps i next k
-  unfolding deedOf rows
-  row-gotos = two 6 _ refl refl
-
-  pub row-parts : 10 ≤ k → k ≤ 11 → Leap (placeIn ps i) ≡ deedOf s ps i next k
-  unfolding deedOf rows
-  row-parts = two 10 _ refl refl
-
-  pub row-none : 16 < k → Leap 0 ≡ deedOf s ps i next k
-  unfolding deedOf rows
-  row-none h = sym (List·getD-eq-default (rows i next _ _ _) (Leap 0) {n = k} h)
+      by : (b : Bool) → leb 1 k ≡ b → Leap 0 ≡ deedOf s ps i next k
+      by true e =
+          let l : 1 ≤ k = leb-true 1 k e in
+          sym (List·getD-eq-default (rows i next _ _ _) (Leap 0) {n = k} (above 16 (above 15 (above 14 (above 13 (above 12 (above 11 (above 10 (above 9 (above 8 (above 7 (above 6 (above 5 (above 4 (above 3 (above 2 (above 1 l a1) a2) a3) a4) a5) a6) a7) a8) a9) a10) a11) a12) a13) a14) a15) a16))
+      by false e = let z : k ≡ 0 = omega (arith, leb-false 1 k e) in rw z

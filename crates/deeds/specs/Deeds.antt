@@ -18,7 +18,7 @@ rows i next x y p =
     Leap 0
     ∷ asking x y (suc i) (suc i) ∷ asking x y (suc i) (suc (suc i)) ∷ asking x y (suc (suc i)) (suc i)
     ∷ Leap x ∷ Leap (suc i) ∷ Leap p ∷ Leap p
-    ∷ asking x y (suc i) p ∷ asking x y p (suc i) ∷ Leap p ∷ Leap p
+    ∷ asking x y (suc i) p ∷ asking x y p (suc i) ∷ Leap p ∷ Leap (suc i)
     ∷ asking x y (suc i) p ∷ asking x y p (suc i) ∷ Leap p
     ∷ Change (Push next) x x ∷ Return ∷ []
 

@@ -55,70 +55,68 @@ fn ask(s: &[u8], i: usize, yes: usize, no: usize) -> Deed
     }
 }
 
-// a: do a, go to i+1. +a: on yes i+1, on no i+2. -a: the reverse. ##k: go to k. [s]: i+1. Gotos: to the target, or end.
-fn plain(kind: u8, s: &[u8], places: &[u16], i: usize) -> Deed
-    requires { ⌜ (1 ≤ kind) × (kind ≤ 7) × (1 ≤ i) × (i ≤ count (now s)) ⌝ }
-    ensures { λ r. ⌜ ((next : ℕ) → r ≡ deedOf (now (s .entry)) (now (places .entry)) i next kind) ⌝ }
-{
-    match kind {
-        1 => ask(s, i, i + 1, i + 1),
-        2 => ask(s, i, i + 1, i + 2),
-        3 => ask(s, i, i + 2, i + 1),
-        4 => Deed::Leap(x_at(s, i) as usize),
-        5 => Deed::Leap(i + 1),
-        _ => Deed::Leap(place_at(places, i)),
-    }
-}
-
-// +a{: on yes i+1, on no past its first arm. -a{ with yes and no exchanged. }{: past its end. }: i+1.
-fn block(kind: u8, s: &[u8], places: &[u16], i: usize) -> Deed
-    requires { ⌜ (8 ≤ kind) × (kind ≤ 11) × (1 ≤ i) × (i ≤ count (now s)) ⌝ }
-    ensures { λ r. ⌜ ((next : ℕ) → r ≡ deedOf (now (s .entry)) (now (places .entry)) i next kind) ⌝ }
-{
-    let to = place_at(places, i);
-    match kind {
-        8 => ask(s, i, i + 1, to),
-        9 => ask(s, i, to, i + 1),
-        _ => Deed::Leap(to),
-    }
-}
-
-// +a{*: on yes i+1, on no past the loop end. -a{* with yes and no exchanged. *}: to the loop header.
-fn round(kind: u8, s: &[u8], places: &[u16], i: usize) -> Deed
-    requires { ⌜ (12 ≤ kind) × (kind ≤ 14) × (1 ≤ i) × (i ≤ count (now s)) ⌝ }
-    ensures { λ r. ⌜ ((next : ℕ) → r ≡ deedOf (now (s .entry)) (now (places .entry)) i next kind) ⌝ }
-{
-    let to = place_at(places, i);
-    match kind {
-        12 => ask(s, i, i + 1, to),
-        13 => ask(s, i, to, i + 1),
-        _ => Deed::Leap(to),
-    }
-}
-
-// R##k: push i+1, go to k. ##R: back to the number on top.
-fn call(kind: u8, s: &[u8], i: usize, next: u16) -> Deed
-    requires { ⌜ (15 ≤ kind) × (kind ≤ 16) ⌝ }
-    ensures { λ r. ⌜ ((ps : List ℕ) → r ≡ deedOf (now (s .entry)) ps i next kind) ⌝ }
-{
-    if kind == 15 {
-        let k = x_at(s, i) as usize;
-        return Deed::Change(Own::Push(next), k, k);
-    }
-    Deed::Return
-}
-
-// What one step does is decided by the kind. `next` is the number after i, as a call pushes it. One caller only, the machine's loop, so
-// that it is compiled into that.
+// What one step does is decided by the kind: the paper's list, one kind after another. `next` is the number after i, as a call pushes
+// it. One caller only, the machine's loop, so that it is compiled into that.
 pub fn deed_at(s: &[u8], places: &[u16], i: usize, next: u16) -> Deed
     ensures { λ r. ⌜ r ≡ deedOf (now (s .entry)) (now (places .entry)) i next (recAt (now (s .entry)) i .kind) ⌝ }
 {
-    let kind = kind_at(s, i);
-    match kind {
-        1..=7 => plain(kind, s, places, i),
-        8..=11 => block(kind, s, places, i),
-        12..=14 => round(kind, s, places, i),
-        15..=16 => call(kind, s, i, next),
+    match kind_at(s, i) {
+        // a: do a, go to i+1.
+        1 => ask(s, i, i + 1, i + 1),
+        // +a: on yes i+1, on no i+2.
+        2 => ask(s, i, i + 1, i + 2),
+        // -a: the reverse.
+        3 => ask(s, i, i + 2, i + 1),
+        // ##k: go to k.
+        4 => Deed::Leap(x_at(s, i) as usize),
+        // [s]: i+1.
+        5 => Deed::Leap(i + 1),
+        // Gotos: to the target, or end.
+        6 => {
+            let target = place_at(places, i);
+            Deed::Leap(target)
+        }
+        7 => {
+            let target = place_at(places, i);
+            Deed::Leap(target)
+        }
+        // +a{ or +a{*: on yes i+1, on no past the separator, or the end where there is none, or the loop end.
+        8 => {
+            let past = place_at(places, i);
+            ask(s, i, i + 1, past)
+        }
+        12 => {
+            let past = place_at(places, i);
+            ask(s, i, i + 1, past)
+        }
+        // -a{ and -a{* with yes and no exchanged.
+        9 => {
+            let past = place_at(places, i);
+            ask(s, i, past, i + 1)
+        }
+        13 => {
+            let past = place_at(places, i);
+            ask(s, i, past, i + 1)
+        }
+        // }{: past its end.
+        10 => {
+            let past = place_at(places, i);
+            Deed::Leap(past)
+        }
+        // }: i+1.
+        11 => Deed::Leap(i + 1),
+        // *}: to the loop header.
+        14 => {
+            let header = place_at(places, i);
+            Deed::Leap(header)
+        }
+        // R##k: push i+1, go to k.
+        15 => {
+            let k = x_at(s, i) as usize;
+            Deed::Change(Own::Push(next), k, k)
+        }
+        // ##R: back to the number on top.
+        16 => Deed::Return,
         _ => Deed::Leap(0),
     }
 }

@@ -97,7 +97,7 @@ module _ (n : ℕ) (m : Mem) where
       kinds (suc (suc (suc (suc (suc (suc (suc (suc zero)))))))) e = plus (suc i) (past (armOf L i)) (suc i) p refl e
       kinds (suc (suc (suc (suc (suc (suc (suc (suc (suc zero))))))))) e = minus (suc i) (past (armOf L i)) (suc i) p refl e
       kinds (suc (suc (suc (suc (suc (suc (suc (suc (suc (suc zero)))))))))) e = ap (λ k. go k m) (sym e)
-      kinds (suc (suc (suc (suc (suc (suc (suc (suc (suc (suc (suc zero))))))))))) e = ap (λ k. go k m) (sym e)
+      kinds (suc (suc (suc (suc (suc (suc (suc (suc (suc (suc (suc zero))))))))))) e = refl
       kinds (suc (suc (suc (suc (suc (suc (suc (suc (suc (suc (suc (suc zero)))))))))))) e = plus (suc i) (past (endOf loop L i)) (suc i) p refl e
       kinds (suc (suc (suc (suc (suc (suc (suc (suc (suc (suc (suc (suc (suc zero))))))))))))) e = minus (suc i) (past (endOf loop L i)) (suc i) p refl e
       kinds (suc (suc (suc (suc (suc (suc (suc (suc (suc (suc (suc (suc (suc (suc zero)))))))))))))) e = ap (λ k. go k m) (sym e)

@@ -7,12 +7,12 @@ use Rattle.rules.specs.Partners.{endOf, armOf, headerOf}
 use Rattle.records.specs.Reading.{recAt}
 
 -- Of record i of L, by its kind from 0 on: a goto to its target; a header past its first arm or loop end; a separator past its end;
--- a } to i+1; a loop end to its header. 0 for any other kind.
+-- a loop end to its header. 0 for any other kind.
 unfoldable pub places : List Op → ℕ → ℕ → ℕ → List ℕ
 places L i x y =
     0 ∷ 0 ∷ 0 ∷ 0 ∷ 0 ∷ 0
     ∷ orZero (target L x) ∷ orZero (target2 L x y)
-    ∷ past (armOf L i) ∷ past (armOf L i) ∷ past (endOf conditional L i) ∷ suc i
+    ∷ past (armOf L i) ∷ past (armOf L i) ∷ past (endOf conditional L i) ∷ 0
     ∷ past (endOf loop L i) ∷ past (endOf loop L i) ∷ headerOf loop L i ∷ []
 
 unfoldable pub placeFor : List Op → ℕ → ℕ → ℕ → ℕ → ℕ

@@ -24,8 +24,8 @@ fn past_record(k: u16) -> usize
     if k == 0 { 0 } else { k as usize + 1 }
 }
 
-// A goto to its target, or 0; a header past its first arm or loop end; a separator past its end; a } to i+1; a loop end to its header.
-// 0 for any other record. The tables have the partners, where the record has one.
+// A goto to its target, or 0; a header past its first arm or loop end; a separator past its end; a loop end to its header. 0 for
+// any other record. The tables have the partners, where the record has one.
 fn place(s: &[u8], i: usize, stops: &[u16], ends: &[u16], headers: &[u16]) -> usize
     requires { ⌜ (Plain (now s) i ⊎ Partnered (now s) (now stops) (now ends) (now headers)) ⌝ }
     ensures { λ r. ⌜ r ≡ placeAt (now (s .entry)) i ⌝ }
@@ -36,7 +36,7 @@ fn place(s: &[u8], i: usize, stops: &[u16], ends: &[u16], headers: &[u16]) -> us
         7 => place_of(target2(s, x_at(s, i), y_at(s, i))),
         8..=9 => past_record(look(stops, i)),
         10 => past_record(look(stops, i)),
-        11 => i + 1,
+        11 => 0,
         12..=13 => past_record(look(ends, i)),
         14 => look(headers, i) as usize,
         _ => 0,

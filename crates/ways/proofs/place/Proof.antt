@@ -1,20 +1,14 @@
 use mathlib.Core.Path.{sym, ap, _∙_}
 use Prim.Native.Nat.{_≤_}
 use native.Mathlib.Omega.{arith}
-use native.Mathlib.Numerals.{add-one}
 use Rattle.rules.specs.Numbers.{past}
 use Rattle.labels.proofs.Targets.{placed}
 use Rattle.ways.specs.Places.{places, placeFor, placeAt}
-use Rattle.ways.proofs.Places.{in-file, place-header, place-loop, place-below, place-above}
+use Rattle.ways.proofs.Places.{place-header, place-loop, place-below, place-above}
 use Rattle.ways.proofs.Ways.{arm-at, end-at, loop-at, header-at}
 use borrow.Author.Needs.{needs}
 use Rattle.ways.proofs.place.Statement.{statement}
 use Rattle.ways.proofs.place.Tie as tie
-
-past-own : tie.Need-add-result
-past-own c =
-    let a = c .before .before .before .before .before .before .args in
-    omega (arith, in-file (a .s .now) (a .i) (omega (arith, c .before .kind-at .ensures, c .match .keys4)))
 
 gotos : tie.Need-returns
 unfolding placeAt placeFor places
@@ -40,7 +34,7 @@ ends : tie.Need-returns-4
 unfolding placeAt placeFor places
 ends c =
     let e = sym (c .before .kind-at .ensures) ∙ c .match .keys4 in
-    rw e (rw add-one)
+    rw e
 
 loop-ends : tie.Need-returns-5
 unfolding placeAt placeFor places
@@ -88,6 +82,6 @@ place-spec =
     tie.close
     (tie.spec
     (λ c κs. search needs) (λ c κs. search needs) (λ c κs. search needs) (λ c κs. search needs) (λ c κs. search needs) (λ c κs. search needs)
-    (λ c κs. search needs) (λ c κs. search needs) (λ c κs. search needs) (λ c κs. search needs) past-own
+    (λ c κs. search needs) (λ c κs. search needs) (λ c κs. search needs) (λ c κs. search needs)
     (λ c κs. search needs) (λ c. search needs) (λ c κs. search needs) (λ c κs. search needs) (λ c κs. search needs)
     (λ c κs. search needs) gotos gotos-2 separates ends loop-ends headers loop-headers lower higher)
