@@ -32,7 +32,7 @@ fn earlier(at: usize) -> usize
     if at == 0 { 0 } else { at - 1 }
 }
 
-// Runs a routine from its start: checks 1 to 7, then 9.
+// Runs a routine from its start: the checks of a routine, then 9.
 pub fn run_routine(routine: &[u8], replies: &[u8], log: &mut [u8], budget: u64) -> Ran
     ensures { λ r. ⌜ Called (runRoutine (now (routine .entry)) (now (replies .entry)) (now (log .entry)) budget) r (now (log .exit)) ⌝ }
 {
