@@ -17,7 +17,7 @@ use tables::{fill_stops, look};
 // and the same. }{ becomes ##(k+1), k its end's number. } at i becomes ##(i+1).
 fn write_group(s: &[u8], places: &[u16], stops: &[u16], i: usize, out: &mut [u8]) -> usize
     requires s_bound { (count s.now ≤ 4096) × (1 ≤ i) × (i ≤ count s.now) }
-    requires leading { Leading Stage.Conditionals s.now places.now × Stopping conditional s.now Stops.now }
+    requires leading { Leading Stage.Conditionals s.now places.now × Stopping conditional s.now stops.now }
     ensures { Fitted (parted s.now i (rec_at s.now i)) out.old out.new result }
 {
     let x = x_at(s, i);

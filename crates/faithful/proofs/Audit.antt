@@ -25,7 +25,7 @@ use Rattle.rules.specs.Checks.{record_checks}
 use Rattle.rules.specs.Skip.{skip, converted_length}
 use Rattle.rules.specs.Convert.{convert}
 use Rattle.rules.specs.Stack.{top}
-use Rattle.rules.specs.Step.{Deed, ask, leap, enter, leave, Mem, no_reply_left, log_is_full, perform, Acted, did, Stops, Out, go, halt, agree, branch, leaving, does, step_at, step}
+use Rattle.rules.specs.Step.{Deed, ask, leap, enter, leave, Mem, no_reply_left, log_is_full, perform, Acted, did, stops, Out, go, halt, agree, branch, leaving, does, step_at, step}
 use Rattle.rules.specs.Stack.{full}
 use Rattle.rules.specs.Run.{Run, one_more, onward, run, start_of, fresh_mem, runs}
 use Rattle.rules.specs.Answers.{routine_checks, short, check_records, check_routine, filled, base_records, base_count, converting, Converted, Call, ran, turned_away, unless, no_state, bad_reply, running, run_routine, run_base}
@@ -37,7 +37,7 @@ use Rattle.faithful.specs.Audit.{Alike, Followed, Audited, Audit}
 use Rattle.faithful.proofs.Demand.{demand3, demand3_run}
 use Rattle.faithful.proofs.Base.{base_length_lem, base_accepted}
 
--- ## A step Stops with 2, 3 or 4 alone, but at position 0, and moves within the records
+-- ## A step stops with 2, 3 or 4 alone, but at position 0, and moves within the records
 
 abbrev stopper : Status → Bool
 stopper Ended = false
@@ -47,7 +47,7 @@ stopper StackFull = true
 stopper Spent = false
 
 module _ (v : Bool) (t f : ℕ) where
-  tested : (b : Bool) (w : Status) (x : Acted) → stopper w ≡ true → ((u : Status) → branch v t f x ≡ halt u → stopper u ≡ true) → (u : Status) → branch v t f (cond b (Stops w) x) ≡ halt u → stopper u ≡ true
+  tested : (b : Bool) (w : Status) (x : Acted) → stopper w ≡ true → ((u : Status) → branch v t f x ≡ halt u → stopper u ≡ true) → (u : Status) → branch v t f (cond b (stops w) x) ≡ halt u → stopper u ≡ true
   unfolding branch
   tested true w x h k u e = let z : w ≡ u = cc in rw (← z) h
   tested false w x h k u e = k u e
@@ -102,7 +102,7 @@ cond_in n false x y h k = k
 branch_in : (n : ℕ) (v : Bool) (t f : ℕ) (x : Acted) (j : ℕ) (m₁ : Mem) → t ≤ n → f ≤ n → branch v t f x ≡ go j m₁ → j ≤ n
 unfolding branch
 branch_in n v t f (did r m) j m₁ h k e = let z : cond (agree v r) t f ≡ j = cc in rw z at (cond_in n (agree v r) t f h k)
-branch_in n v t f (Stops w) j m₁ h k e = absurd (let z : ◌≡◌ {A = ℕ} 0 1 = cc in omega arith)
+branch_in n v t f (stops w) j m₁ h k e = absurd (let z : ◌≡◌ {A = ℕ} 0 1 = cc in omega arith)
 
 does_in : (n : ℕ) (d : Deed) (m : Mem) (j : ℕ) (m₁ : Mem) → does n d m ≡ go j m₁ → j ≤ n
 unfolding does leaving
@@ -140,7 +140,7 @@ after_in L (suc c) i m j m₁ h e = by (step L i m) (step_in L i m) e (after_in 
     by (go k m₂) g e ih = ih k m₂ j m₁ (g k m₂ refl) e
     by (halt w) g e ih = absurd (let z : ◌≡◌ {A = ℕ} 0 1 = cc in omega arith)
 
--- a place that Stops as a record does is a record's
+-- a place that stops as a record does is a record's
 stands : (L : List Op) (i : ℕ) (m : Mem) → ¬ (i ≡ 0) → i ≤ length L → why (step L i m) ≡ some Ended → ⊥
 unfolding why
 stands L zero m z h e = z refl
@@ -316,7 +316,7 @@ module _ (s b : List ℕ)
         steps = d.total;
         at_least = rw r d.low;
         at_most = rw (r, ← ops-length s) d.high;
-        Stops = λ h larger g. let a = d.over (λ z. h (sym k.1 ∙ z)) larger g in rw (r, o larger) (same_mem _ _ a.0 a.1);
+        stops = λ h larger g. let a = d.over (λ z. h (sym k.1 ∙ z)) larger g in rw (r, o larger) (same_mem _ _ a.0 a.1);
         goes_on = λ h. let a = d.spent (k.1 ∙ h) in rw (r, o d.total) (same_mem _ _ a.0 a.1);
       }
 

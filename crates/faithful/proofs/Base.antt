@@ -1,4 +1,4 @@
--- An accepted file is that of its instructions. What conversion Gives is accepted as a base, and read back from its bytes: its kinds are
+-- An accepted file is that of its instructions. What conversion gives is accepted as a base, and read back from its bytes: its kinds are
 -- 1 to 4, its numbers fit their fields.
 -- From the stages, the length law and the laws of fields of `rules`.
 use mathlib.Core.Path.{◌≡◌, refl, ap, ◌∙◌, subst}

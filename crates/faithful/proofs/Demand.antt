@@ -14,7 +14,7 @@ use Rattle.rules.specs.Loops.{unloop, loops}
 use Rattle.rules.specs.Conditionals.{uncond}
 use Rattle.rules.specs.Convert.{convert}
 use Rattle.rules.specs.Stack.{fresh, top, equals}
-use Rattle.rules.specs.Step.{Mem, Acted, did, Stops, perform, Out, go, halt, agree, step}
+use Rattle.rules.specs.Step.{Mem, Acted, did, stops, perform, Out, go, halt, agree, step}
 use Rattle.rules.specs.Run.{start_of, fresh_mem, Run, one_more, onward, run, runs}
 use Rattle.rules.proofs.Cases.{there_and_back}
 use Rattle.laws.proofs.Records.{ops-length}
@@ -65,7 +65,7 @@ link_cost_lem (suc j) t = let h = link_cost_lem j t in between (equals t (suc j)
 fork_cost_lem : (v : Bool) (x : Acted) → (1 ≤ fork_cost v x) × (fork_cost v x ≤ 2)
 unfolding fork_cost
 fork_cost_lem v (did r m) = between (agree v r) 1 1 2 2 (omega arith) (omega arith)
-fork_cost_lem v (Stops w) = omega arith
+fork_cost_lem v (stops w) = omega arith
 
 op_cost : (n : ℕ) (o : Op) (m : Mem) → 1 ≤ n → (1 ≤ cost n o m) × (cost n o m ≤ 2 * n + 1)
 unfolding cost

@@ -19,13 +19,13 @@ pub record Alike (one other : Call) : Type 0 where
   pub log : one.log ≡ other.log
 
 -- A run of the routine s that stopped with status w, and runs of the base b on the same replies and log: there is a count, from the
--- routine's steps to (2n+1) times as many, such that the base Stops alike. A routine that stopped with status 1 to 4 is followed by the
+-- routine's steps to (2n+1) times as many, such that the base stops alike. A routine that stopped with status 1 to 4 is followed by the
 -- base under every budget above the count; one whose budget was spent, by the base under the count itself.
 pub record Followed (s b replies log : List ℕ) (budget : ℕ) (w : Status) : Type 0 where
   pub steps : ℕ
   pub at_least : (run_routine s replies log budget).answer.steps ≤ steps
   pub at_most : steps ≤ (2 * count s + 1) * (run_routine s replies log budget).answer.steps
-  pub Stops : ¬ (w ≡ Spent) → (larger : ℕ) → steps < larger → Alike (run_base b replies log larger) (run_routine s replies log budget)
+  pub stops : ¬ (w ≡ Spent) → (larger : ℕ) → steps < larger → Alike (run_base b replies log larger) (run_routine s replies log budget)
   pub goes_on : w ≡ Spent → Alike (run_base b replies log steps) (run_routine s replies log budget)
 
 -- If `convert` accepts the routine's bytes s and leaves out' in its output, then the base is the first 8 bytes per record of out'. It is

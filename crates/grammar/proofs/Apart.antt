@@ -101,7 +101,7 @@ solid_ending i q w at x y d pos e =
     let b : byte_at w (at + 0) ≡ q = let r : at + 0 ≡ at = omega arith in ap (byte_at w) r ∙ e in
     rw (z, ne_eqb (at + 0) (length w) (λ n. omega arith), b, d.no_semi)
 
--- A form whose first sign is not there Stops at once.
+-- A form whose first sign is not there stops at once.
 stuck : (j q : ℕ) (qs w : List ℕ) (at x y : ℕ) → take_sign q w at ≡ Off at → (follow j (q ∷ qs) w at x y).far ≡ at
 unfolding follow
 stuck j q qs w at x y e = rw e
@@ -201,7 +201,7 @@ byte_is : (p : ℕ) (w : List ℕ) (at e : ℕ) → part_of p ≡ itself → tak
 byte_is p w at e s o = eqb-true (byte_at w at) p (rw s at (on p w at e o))
 
 module _ (w : List ℕ) (at : ℕ) (le : at ≤ length w) where
-  -- Where R##k is whole, the name Stops at the #.
+  -- Where R##k is whole, the name stops at the #.
   call_first : (x y x' y' : ℕ) → (follow 15 (82 ∷ 35 ∷ 35 ∷ 107 ∷ []) w at x y).whole ≡ true
       → (follow 1 (97 ∷ []) w at x' y').far < (follow 15 (82 ∷ 35 ∷ 35 ∷ 107 ∷ []) w at x y).far
   unfolding follow
@@ -218,7 +218,7 @@ module _ (w : List ℕ) (at : ℕ) (le : at ≤ length w) where
       let f : at + 1 < (follow 15 (35 ∷ 35 ∷ 107 ∷ []) w (at + 1) (x_at 82 at x) (y_at 82 at y)).far = follow-ahead 15 w (35 ∷ 35 ∷ 107 ∷ []) (at + 1) (x_at 82 at x) (y_at 82 at y) tt (omega arith) h' in
       rw (n, r, solid_ending 1 35 w (at + 1) (x_at 97 at x') (y_at 97 at y') solid_hash (omega arith) b') (omega arith)
 
-  -- Where a name that begins with R is whole, R##k Stops at the next byte.
+  -- Where a name that begins with R is whole, R##k stops at the next byte.
   second_byte : (x y x' y' : ℕ) → (follow 1 (97 ∷ []) w at x y).whole ≡ true → byte_at w at ≡ 82
       → (follow 15 (82 ∷ 35 ∷ 35 ∷ 107 ∷ []) w at x' y').far < (follow 1 (97 ∷ []) w at x y).far
   unfolding follow
@@ -236,7 +236,7 @@ module _ (w : List ℕ) (at : ℕ) (le : at ≤ length w) where
       let lt : o.e < (ending 1 w o.e (x_at 97 at x) (y_at 97 at y)).far = ending-ahead 1 w o.e (x_at 97 at x) (y_at 97 at y) o.then in
       rw (r, f, o.is) (omega (arith, g.0))
 
-  -- Where a name is whole, R##k Stops at or before the name's end.
+  -- Where a name is whole, R##k stops at or before the name's end.
   name_first : (x y x' y' : ℕ) → (follow 1 (97 ∷ []) w at x y).whole ≡ true
       → (follow 15 (82 ∷ 35 ∷ 35 ∷ 107 ∷ []) w at x' y').far < (follow 1 (97 ∷ []) w at x y).far
   name_first x y x' y' h =

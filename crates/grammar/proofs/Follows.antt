@@ -1,4 +1,4 @@
--- Following a form: a sign that is there takes a byte and stays in the text, one that is not Stops in the text. So a form that is
+-- Following a form: a sign that is there takes a byte and stays in the text, one that is not stops in the text. So a form that is
 -- followed from a place goes on from there.
 use mathlib.Core.Path.{◌≡◌, refl, sym}
 use Prim.Native.Nat.{◌≤◌, ◌<◌}

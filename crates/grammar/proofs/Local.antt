@@ -1,4 +1,4 @@
--- A reading depends on no byte behind the one where it stops: where the best form Stops before n, another text with the same first n
+-- A reading depends on no byte behind the one where it stops: where the best form stops before n, another text with the same first n
 -- bytes has the same best form. So the byte where the best form is stuck is one that no text has there, however it goes on.
 use mathlib.Core.Path.{◌≡◌, refl, ap, ◌∙◌}
 use Prim.Native.Nat.{◌≤◌, ◌<◌}

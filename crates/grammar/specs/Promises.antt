@@ -11,7 +11,7 @@ use Rattle.text.specs.Grammar.{Form, done, sign, named, numbered, Some, last, mo
 
 -- ## The place of refusal 12 (proofs/Place)
 
--- The first byte that no text could have there, one past the end if it Stops short: w is no text, and where p is a byte of it no text
+-- The first byte that no text could have there, one past the end if it stops short: w is no text, and where p is a byte of it no text
 -- has the same bytes up to and with p; but some text has the same bytes up to p.
 pub record Place12 (w : List ℕ) (p : ℕ) : Type 0 where
   pub from_one : 1 ≤ p

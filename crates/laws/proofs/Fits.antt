@@ -1,6 +1,6 @@
 -- Every stage keeps its numbers within their fields, so that what it writes is read back.
 --     all_fit-named, all_fit-small, fit-read, fit-ops     a list that fits is read back from its bytes, whatever follows them
---     labels-fit, calls-fit, loops-fit, conditionals-fit     each stage fits where what it is given fits and what it Gives is short
+--     labels-fit, calls-fit, loops-fit, conditionals-fit     each stage fits where what it is given fits and what it gives is short
 --     stages_fit     all of them, where the converted length is at most 4,096
 use mathlib.Core.Path.{◌≡◌, sym, ap, ◌∙◌}
 use Prim.Native.Nat.{ℕ, zero, suc, ◌+◌, ◌≤◌}

@@ -1,7 +1,7 @@
 -- Runs with the steps as an accumulator.
 --     plus, plus_zero, plus_one, plus_plus     a run with k steps more
 --     run_zero, run-at_zero     without budget; at position 0, which is ended with any budget
---     run-go, run-halt, plus_go, plus_halt     with budget: the step is taken, or it Stops
+--     run-go, run-halt, plus_go, plus_halt     with budget: the step is taken, or it stops
 --     run-steps     no more steps than the budget
 --     run_more, run_left     a run whose budget was not spent answers the same with a larger one
 use mathlib.Core.Path.{◌≡◌, refl, ap, ◌∙◌}

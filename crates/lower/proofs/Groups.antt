@@ -1,6 +1,6 @@
 -- A stage on a file is the paper's stage on its instructions: what a record becomes, by its kind, is what its instruction becomes.
 --     Own     the records of the file are those of its instructions, and no more than a base may have
---     lowers, stage_is     the stage, by its name; where what it Gives is no longer than a base may be
+--     lowers, stage_is     the stage, by its name; where what it gives is no longer than a base may be
 use mathlib.Core.Path.{◌≡◌, refl, sym, ap, ◌∙◌}
 use Prim.Native.Nat.{ℕ, zero, suc, ◌≤◌, ◌<◌}
 use native.Mathlib.Omega.{arith}

@@ -2,7 +2,7 @@
 --     part_length, eights     the part of a buffer that a stage wrote
 --     stage, next     what a stage writes of a file, and of what the stage before it wrote
 --     over           a later stage that writes as much over an earlier one leaves the rest as it was before both
---     Ready, ready   what an accepted routine Gives the stages
+--     Ready, ready   what an accepted routine gives the stages
 use mathlib.Core.Path.{◌≡◌, sym, ap, ◌∙◌}
 use Prim.Native.Nat.{ℕ, ◌+◌, ◌-◌, ◌*◌, ◌≤◌}
 use native.Mathlib.Omega.{arith}
@@ -35,7 +35,7 @@ part_length {w = w} {k} v = sym (length-take-le k w (omega (arith, fit_sizes v))
 pub eights : (L : List Op) {o w : List ℕ} {k : ℕ} → Wrote (map encode L) o w k → k ≡ 8 * length L
 eights L v = wrote_length v ∙ ap (λ (n : ℕ). 8 * n) (length-map L encode)
 
--- The stage on a file, where what it Gives fits into a base and into the output.
+-- The stage on a file, where what it gives fits into a base and into the output.
 pub stage : (at : Stage) {s : List ℕ} → Own s → (M : List Op) → lowers at (ops s) ≡ M → {o w : List ℕ} {k : ℕ} → length M ≤ 4096 → 8 * length M ≤ length o
     → Fitted (staged at s) o w k → Wrote (map encode M) o w k
 stage at {s} a M e l r v = fit_all (fit_as (sym (stage_is s a at (rw e l) ∙ ap (map encode) e)) v) (rw (length-map M encode) r)

@@ -13,7 +13,7 @@ use Rattle.rules.specs.Numbers.{at, past, names, move_to}
 use Rattle.rules.specs.Instruction.{outside, push, pop, compare, loop, act_of, Op, written, decode, ops}
 use Rattle.rules.specs.Partners.{end_of, arm_of}
 use Rattle.rules.specs.Stack.{popped, top}
-use Rattle.rules.specs.Step.{Mem, Out, go, halt, with_stack, Acted, did, Stops, perform, agree, branch, leaving, does, deed, ask, step_at, step}
+use Rattle.rules.specs.Step.{Mem, Out, go, halt, with_stack, Acted, did, stops, perform, agree, branch, leaving, does, deed, ask, step_at, step}
 use Rattle.laws.proofs.Records.{record_at, ops-length, ops-at}
 use Rattle.records.specs.Reading.{rec_at}
 use Rattle.records.proofs.Reading.{rec_at_lem}
@@ -38,14 +38,14 @@ module _ (n : ℕ) (m : Mem) where
       by : (a : Bool) → go (cond a (move_to n t) (move_to n f)) m' ≡ landed n (go (cond a t f) m')
       by true = refl
       by false = refl
-  land_branch v t f (Stops w) = refl
+  land_branch v t f (stops w) = refl
 
   -- On the other sign yes and no are exchanged.
   exchanged : (t f : ℕ) (r : Acted) → branch false t f r ≡ branch true f t r
   unfolding branch agree
   exchanged t f (did true m') = refl
   exchanged t f (did false m') = refl
-  exchanged t f (Stops w) = refl
+  exchanged t f (stops w) = refl
 
   returned : (o : Option ℕ) → leaving n o m ≡ landed n (leaving n o m)
   unfolding leaving landed move_to names

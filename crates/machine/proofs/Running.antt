@@ -25,7 +25,7 @@ use Rattle.stack.proofs.Moves.{named, move_named, move_out}
 use Rattle.deeds.specs.declared.Deed.{Deed}
 use Rattle.deeds.specs.Deeds.{deed_of}
 use Rattle.steps.specs.Steps.{mem, done}
-use Rattle.machine.specs.Running.{Stops, Right}
+use Rattle.machine.specs.Running.{stops, Right}
 use Rattle.machine.proofs.Deeds.{landed, stands}
 
 -- Where a run of the file s from position i₀ stands: the locals, and that they come to the whole run.
@@ -39,9 +39,9 @@ pub record Going (s replies : List ℕ) (budget i₀ : ℕ) (z : Stack) (log₀ 
 pub begins : (s replies : List ℕ) (budget i : ℕ) (z : Stack) (log : List ℕ) → Going s replies budget i z log log i z.entries z.depth 0 0
 begins s replies budget i z log = record { within = omega arith; first = λ e. refl; same = refl; rest = sym (plus_zero _ ∙ rw sub-zero) }
 
--- A run that Stops answers this.
+-- A run that stops answers this.
 pub answered : (r : Run) (steps i : ℕ) (s : Stack) (replies : List ℕ) (asked : ℕ) (log : List ℕ) (w : Status) → r ≡ plus steps (stopped i (mem s replies asked log) w)
-    → (a : Ran) → a ≡ Stops w i s steps asked → Called (ran r) a log
+    → (a : Ran) → a ≡ stops w i s steps asked → Called (ran r) a log
 unfolding ran plus
 answered r steps i s replies asked log w e a h = record { answers = h ∙ rw (e, add-zero); logs = rw e }
 

@@ -15,9 +15,9 @@ use Rattle.deeds.specs.Deeds.{place_in}
 abbrev pub fresh_at : ℕ → State
 fresh_at i = record { at = i; stack = fresh }
 
--- A run that Stops.
-abbrev pub Stops : Status → ℕ → Stack → ℕ → ℕ → Ran
-Stops w i s steps asked = record {
+-- A run that stops.
+abbrev pub stops : Status → ℕ → Stack → ℕ → ℕ → Ran
+stops w i s steps asked = record {
   outcome = Stopped w;
   state = record { at = i; stack = s };
   steps = steps;

@@ -6,7 +6,7 @@ ghost use Rattle.rules.specs.Instruction.{ops};
 ghost use Rattle.rules.specs.Run.{run};
 ghost use Rattle.rules.specs.Stack.{stack};
 ghost use Rattle.rules.specs.Answers.{Called, ran, mem_at};
-ghost use Rattle.machine.specs.Running.{Stops, Right};
+ghost use Rattle.machine.specs.Running.{stops, Right};
 
 use deeds::deed_at;
 use rules::{Outcome, Ran, Stack, State, Status};
@@ -22,7 +22,7 @@ fn stop(
     steps: u64,
     asked: usize,
 ) -> Ran
-    ensures { result ≡ Stops status at (stack entries depth) steps asked }
+    ensures { result ≡ stops status at (stack entries depth) steps asked }
 {
     let stack = Stack { entries, depth };
     Ran {

@@ -1,6 +1,6 @@
 -- One instruction, by the tests on its form and its names.
 --     settled-steps                                   all names known
---     action_zero, action-none, action-some           an action: not reached, Unknown, known
+--     action_zero, action-none, action-some           an action: not reached, unknown, known
 --     number_zero, number-some                        a number
 --     label_zero, label-bad, label_good               a label
 --     stepped                                         the form that is followed furthest

@@ -24,7 +24,7 @@ absolute_at i r =
 unfoldable pub to_absolute : List Rec → List Rec
 to_absolute rs = each absolute_at 1 rs
 
--- Refusal 11: relative to absolute Gives a number above 9,999. The first such record from number i on: 0 if there is none.
+-- Refusal 11: relative to absolute gives a number above 9,999. The first such record from number i on: 0 if there is none.
 unfoldable pub far_from : ℕ → List Rec → ℕ
 far_from i [] = 0
 far_from i (r ∷ rs) = let later = far_from (suc i) rs in cond (ltb 9999 (absolute_at i r).x) i later

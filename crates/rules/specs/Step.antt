@@ -74,14 +74,14 @@ log_is_full m = ltb (length m.log - 2 * m.logged) 2
 
 pub data Acted : Type 0 where
   did : Bool → Mem → Acted
-  Stops : Status → Acted
+  stops : Status → Acted
 
--- An outside action Stops with 2, no reply left, then 3, log full. Push replies yes, or Stops with 4, stack full; pop replies no on
+-- An outside action stops with 2, no reply left, then 3, log full. Push replies yes, or stops with 4, stack full; pop replies no on
 -- empty, else yes; compare replies yes exactly if not empty and the top equals y, and keeps it. These three use no outside reply and
 -- aren't logged.
 unfoldable pub perform : Act → Mem → Acted
-perform (outside a) m = cond (no_reply_left m) (Stops NoReply) (cond (log_is_full m) (Stops LogFull) (did (reply m) (logging a m)))
-perform (push y) m = cond (full m.stack) (Stops StackFull) (did true (with_stack (pushed y m.stack) m))
+perform (outside a) m = cond (no_reply_left m) (stops NoReply) (cond (log_is_full m) (stops LogFull) (did (reply m) (logging a m)))
+perform (push y) m = cond (full m.stack) (stops StackFull) (did true (with_stack (pushed y m.stack) m))
 perform pop m = did (nonempty (top m.stack)) (with_stack (popped m.stack) m)
 perform (compare y) m = did (equals (top m.stack) y) m
 
@@ -97,7 +97,7 @@ agree v r = cond v r (not r)
 
 unfoldable pub branch : Bool → ℕ → ℕ → Acted → Out
 branch v t f (did r m) = go (cond (agree v r) t f) m
-branch v t f (Stops s) = halt s
+branch v t f (stops s) = halt s
 
 -- ##R: if the stack is not empty and its top t is in 1..n, pop and go to t; otherwise end, stack kept.
 unfoldable pub leaving : ℕ → Option ℕ → Mem → Out

@@ -54,10 +54,10 @@ lowest_any b c w v k (x ∷ st) = refl
 
 module _ (s : List ℕ) (at i : ℕ) (f : at ≤ i) (p : Passes s at i) where
   pub body_end : i ≤ count s → count s ≤ i → BodyRead s at (To i)
-  body_end u e = record { from = f; upto = u; Stops = λ l. absurd (omega arith); passes = p }
+  body_end u e = record { from = f; upto = u; stops = λ l. absurd (omega arith); passes = p }
 
   pub body_shut : i < count s → Shut (bracket_at s i) → BodyRead s at (To i)
-  body_shut u x = record { from = f; upto = omega arith; Stops = λ l. x; passes = p }
+  body_shut u x = record { from = f; upto = omega arith; stops = λ l. x; passes = p }
 
 pub item_is : (s : List ℕ) (at : ℕ) (r x : Read) → ItemRead s at r → r ≡ x → ItemRead s at x
 item_is s at r x h e = subst (λ (q : Read). ItemRead s at q) e h
@@ -183,7 +183,7 @@ module _ (s : List ℕ) (at : ℕ) (b : Sort) (w : Bool) (j : ℕ) (above : at <
         ∙ body.passes (item b w (at + 1) ∷ st)
         ∙ run_here s m (item b w (at + 1) ∷ st) l
         ∙ ap (λ (o : Option (List Item)). go_on (m + 1) o (λ t. run s (m + 1) t))
-        (take_shut b (bracket_at s m) (body.Stops l) w (m + 1) (at + 1) st ∙ ap (λ (r : Role). taken r b w (at + 1) st) (ops-role b s m (jump 0) l))
+        (take_shut b (bracket_at s m) (body.stops l) w (m + 1) (at + 1) st ∙ ap (λ (r : Role). taken r b w (at + 1) st) (ops-role b s m (jump 0) l))
 
     after_to : After s at b w (behind_of s at b (To m))
     unfolding behind_of
@@ -218,7 +218,7 @@ read_none i alone z = absurd z
 module _ (s : List ℕ) where
   pub whole_shut : (m : ℕ) → BodyTo s 0 m → m < count s → nesting (ops s) ≡ m + 1
   unfolding go_on
-  whole_shut m body l = whole s ∙ body.passes [] ∙ run_here s m [] l ∙ rw (read_none (m + 1) (bracket_at s m) (body.Stops l))
+  whole_shut m body l = whole s ∙ body.passes [] ∙ run_here s m [] l ∙ rw (read_none (m + 1) (bracket_at s m) (body.stops l))
 
   pub whole_fine : (m : ℕ) → BodyTo s 0 m → count s ≤ m → nesting (ops s) ≡ 0
   unfolding lowest

@@ -67,7 +67,7 @@ StaysOpen s at k = (st : List Item) → run s at st ≡ lowest (item instruction
 pub record BodyTo (s : List ℕ) (at m : ℕ) : Type 0 where
   pub from : at ≤ m
   pub upto : m ≤ count s
-  pub Stops : m < count s → Shut (bracket_at s m)
+  pub stops : m < count s → Shut (bracket_at s m)
   pub passes : Passes s at m
 
 -- An item is not empty, unless a separator or an end stands there.

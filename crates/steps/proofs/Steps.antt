@@ -14,7 +14,7 @@ use Rattle.rules.specs.declared.Status.TheVariants.{NoReply, LogFull, StackFull}
 use Rattle.rules.specs.Record.{low_byte, high_byte}
 use Rattle.rules.specs.Numbers.{or_zero, names}
 use Rattle.rules.specs.Stack.{full, pushed, without, popped, top, nonempty, equals}
-use Rattle.rules.specs.Step.{Mem, with_stack, go, did, Stops, logging, reply, no_reply_left, log_is_full, perform, agree, branch, leaving}
+use Rattle.rules.specs.Step.{Mem, with_stack, go, did, stops, logging, reply, no_reply_left, log_is_full, perform, agree, branch, leaving}
 use Rattle.stack.specs.declared.StackReply.TheVariants.{Yes, Full}
 use Rattle.stack.specs.Methods.{said, handed, pushing, popping, comparing}
 use Rattle.deeds.specs.declared.Own.{Own}
@@ -34,7 +34,7 @@ module _ (n : ℕ) (s : Stack) (replies : List ℕ) (asked : ℕ) (log : List �
   changes (Push y) t f = by (full s)
     where
       by : (b : Bool)
-          → Went (branch true t f (cond b (Stops StackFull) (did true (with_stack (pushed y s) (here s))))) (here s)
+          → Went (branch true t f (cond b (stops StackFull) (did true (with_stack (pushed y s) (here s))))) (here s)
           (leads (cond b (handed Full s) (handed Yes (pushed y s))).reply t f) (here (cond b (handed Full s) (handed Yes (pushed y s))).stack)
       by true = (refl, refl)
       by false = refl

@@ -55,19 +55,19 @@ loop_stop L i = rw (no_parts (at L i)) (sym (settled loop L 0 i ∙ rw (no_parts
 module _ (s : List ℕ) {t : List ℕ} where
   module _ (m : ℕ) (f : count s ≤ 4096) (r : count s < m) where
     pub stops-made : (b : Sort) → t ≡ filled (stop_of b (ops s)) (count s) (replicate m 0) → Stopping b s t
-    stops-made b e = record { Stops = λ k l h. rw e (looked_in _ (count s) m f r k l h) }
+    stops-made b e = record { stops = λ k l h. rw e (looked_in _ (count s) m f r k l h) }
 
     pub headers_made : t ≡ filled (open_at loop (ops s)) (count s) (replicate m 0) → Opening s t
     headers_made e = record { opened = λ k l h. rw e (looked_in _ (count s) m f r k l h) }
 
   module _ (i : ℕ) (l : 1 ≤ i) (h : i ≤ count s) where
     pub loop_found : Stopping loop s t → get_or t i 0 ≡ end_of loop (ops s) i
-    loop_found u = u.Stops i l h ∙ loop_stop (ops s) i
+    loop_found u = u.stops i l h ∙ loop_stop (ops s) i
 
     module _ {kind : ℕ} (e : kind ≡ (rec_at s i).kind) where
       chosen : Stopping conditional s t → {p : Bool} → parting (role_of_kind conditional kind) ≡ p → get_or t i 0 ≡ cond p (end_of conditional (ops s) i) (arm_of (ops s) i)
       unfolding stop_of arm_of
-      chosen u q = u.Stops i l h ∙ rw (role-at conditional s i, ← e, q)
+      chosen u q = u.stops i l h ∙ rw (role-at conditional s i, ← e, q)
 
       pub arm_found : Stopping conditional s t → 8 ≤ kind → kind ≤ 9 → get_or t i 0 ≡ arm_of (ops s) i
       unfolding parting role_of_kind

@@ -55,7 +55,7 @@ module _ (b : Sort) (L : List Op) where
     behind : (k : ℕ) → from w d i ≡ suc k → (i ≤ k) × (k < length L)
     ending : (k : ℕ) → w ≡ false → from w d i ≡ suc k → parting (here (suc k)) ≡ false
 
-  -- The search goes on behind record i + 1, or Stops there.
+  -- The search goes on behind record i + 1, or stops there.
   on : {w : Bool} {d i : ℕ} (e : ℕ) → from w d i ≡ from w e (suc i) → Found w e (suc i) → Found w d i
   on e t f = record { behind = λ k q. let g = f.behind k (sym t ∙ q) in (omega (arith, g.0), g.1); ending = λ k z q. f.ending k z (sym t ∙ q) }
 

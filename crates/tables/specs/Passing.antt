@@ -52,9 +52,9 @@ head_of parts i top out = top
 head_of ends i top out = out
 head_of other i top out = top
 
--- A table has the Stops of the records of a file, or the headers that are open before them.
+-- A table has the stops of the records of a file, or the headers that are open before them.
 pub record Stopping (b : Sort) (s t : List ℕ) : Type 0 where
-  pub Stops : (k : ℕ) → 1 ≤ k → k ≤ count s → get_or t k 0 ≡ stop_of b (ops s) k
+  pub stops : (k : ℕ) → 1 ≤ k → k ≤ count s → get_or t k 0 ≡ stop_of b (ops s) k
 
 pub record Opening (s t : List ℕ) : Type 0 where
   pub opened : (k : ℕ) → 1 ≤ k → k ≤ count s → get_or t k 0 ≡ open_at loop (ops s) k

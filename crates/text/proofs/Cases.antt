@@ -81,7 +81,7 @@ Cases =
     × (Stops "#" 2)
     × (Stops "+" 2)
     × (Stops "*" 2)
-    -- A name has 1 to 16 letters or digits. A longer one is 12 only; an Unknown one is 13, whatever follows it.
+    -- A name has 1 to 16 letters or digits. A longer one is 12 only; an unknown one is 13, whatever follows it.
     × (Unknown "abcdefghijklmnop" 1)
     × (Stops "abcdefghijklmnopq" 17)
     × (Stops "[abcdefghijklmnopq]" 18)

@@ -2,7 +2,7 @@
 --     past_end, in_text       past its end no byte is of a sort, and one that is of a sort is in it
 --     byte_there              nor is a byte that is not 0 past its end
 --     span-within             a run of bytes of a sort stays in it
---     Reach, take_reach       a sign that is there takes a byte and stays in it; one that is not Stops in it
+--     Reach, take_reach       a sign that is there takes a byte and stays in it; one that is not stops in it
 use mathlib.Core.Path.{◌≡◌, refl, sym, ap, ◌∙◌}
 use Prim.Native.Nat.{◌≤◌, ◌<◌}
 use native.Mathlib.Omega.{arith}

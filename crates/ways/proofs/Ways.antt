@@ -27,17 +27,17 @@ use Rattle.ways.proofs.Places.{from_one, in_file}
 
 -- ## What the tables of partners have, where the record has a partner
 
-module _ {s Stops ends headers : List ℕ} (i : ℕ) (q : Plain s i ⊎ Partnered s Stops ends headers) {kind : ℕ} (e : kind ≡ (rec_at s i).kind) where
-  partnered : 8 ≤ kind → kind ≤ 14 → Partnered s Stops ends headers
+module _ {s stops ends headers : List ℕ} (i : ℕ) (q : Plain s i ⊎ Partnered s stops ends headers) {kind : ℕ} (e : kind ≡ (rec_at s i).kind) where
+  partnered : 8 ≤ kind → kind ≤ 14 → Partnered s stops ends headers
   partnered l h = ⊎_elim (λ p. absurd (omega (arith, e, p (omega (arith, e))))) (λ p. p) q
 
   named : 8 ≤ kind → (1 ≤ i) × (i ≤ count s)
   named l = let k : 0 < (rec_at s i).kind = omega (arith, e) in (from_one s i k, in_file s i k)
 
-  pub arm_at : 8 ≤ kind → kind ≤ 9 → get_or Stops i 0 ≡ arm_of (ops s) i
+  pub arm_at : 8 ≤ kind → kind ≤ 9 → get_or stops i 0 ≡ arm_of (ops s) i
   arm_at l h = let n = named l in arm_found s i n.0 n.1 e (partnered l (omega arith)).stopping l h
 
-  pub end-at : kind ≡ 10 → get_or Stops i 0 ≡ end_of conditional (ops s) i
+  pub end-at : kind ≡ 10 → get_or stops i 0 ≡ end_of conditional (ops s) i
   end-at h = let n = named (omega arith) in end-found s i n.0 n.1 e (partnered (omega arith) (omega arith)).stopping h
 
   pub loop_at : 8 ≤ kind → kind ≤ 14 → get_or ends i 0 ≡ end_of loop (ops s) i

@@ -27,7 +27,7 @@ ways s from to t = cond (leb (count s) 512) (entered s from to t) t
 abbrev pub Plain : List ℕ → ℕ → Type 0
 Plain s i = 8 ≤ (rec_at s i).kind → 14 < (rec_at s i).kind
 
-pub record Partnered (s Stops ends headers : List ℕ) : Type 0 where
-  pub stopping : Stopping conditional s Stops
+pub record Partnered (s stops ends headers : List ℕ) : Type 0 where
+  pub stopping : Stopping conditional s stops
   pub ending : Stopping loop s ends
   pub opening : Opening s headers

@@ -19,7 +19,7 @@ fn past_record(k: u16) -> usize
 // A goto to its target, or 0; a header past its first arm or loop end; a separator past its end; a loop end to its header. 0 for
 // any other record. The tables have the partners, where the record has one.
 fn place(s: &[u8], i: usize, stops: &[u16], ends: &[u16], headers: &[u16]) -> usize
-    requires { Plain s.now i ⊎ Partnered s.now Stops.now ends.now headers.now }
+    requires { Plain s.now i ⊎ Partnered s.now stops.now ends.now headers.now }
     ensures { result ≡ place_at s.now i }
 {
     let kind = kind_at(s, i);
@@ -37,7 +37,7 @@ fn place(s: &[u8], i: usize, stops: &[u16], ends: &[u16], headers: &[u16]) -> us
 
 // The place of record i in 16 bits.
 fn way(s: &[u8], i: usize, stops: &[u16], ends: &[u16], headers: &[u16]) -> u16
-    requires { Plain s.now i ⊎ Partnered s.now Stops.now ends.now headers.now }
+    requires { Plain s.now i ⊎ Partnered s.now stops.now ends.now headers.now }
     ensures { result ≡ way_of s.now i }
 {
     let k = place(s, i, stops, ends, headers);
@@ -57,7 +57,7 @@ fn put_ways(
     headers: &[u16],
     t: &mut [u16],
 )
-    requires { (k : ℕ) → from ≤ k → k < to → Plain s.now (suc k) ⊎ Partnered s.now Stops.now ends.now headers.now }
+    requires { (k : ℕ) → from ≤ k → k < to → Plain s.now (suc k) ⊎ Partnered s.now stops.now ends.now headers.now }
     ensures { t.new ≡ entered s.now from to t.old }
 {
     let mut k = from;

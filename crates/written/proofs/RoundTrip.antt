@@ -1,4 +1,4 @@
--- Writing what was read and reading it again Gives the same records: over records, and over the calls' answers.
+-- Writing what was read and reading it again gives the same records: over records, and over the calls' answers.
 use mathlib.Core.Path.{◌≡◌, refl, sym, ap, ◌∙◌}
 use Prim.Native.Nat.{◌≤◌}
 use native.Mathlib.Omega.{arith}

@@ -15,10 +15,10 @@ use Rattle.conditionals.proofs.expand_conditionals.Statement.{statement}
 use Rattle.conditionals.proofs.expand_conditionals.Tie as tie
 
 abbrev invariant-loop : tie.invariant-loop
-invariant-loop s out₀ n places Stops at₀ i₀ out at i = Written Conditionals s out₀ out at i
+invariant-loop s out₀ n places stops at₀ i₀ out at i = Written Conditionals s out₀ out at i
 
 abbrev decreases-loop : tie.decreases-loop
-decreases-loop s out₀ n places Stops at₀ i₀ out at i = n - i
+decreases-loop s out₀ n places stops at₀ i₀ out at i = n - i
 
 again : tie.Need-loop-preserved invariant-loop decreases-loop
 unfolding group

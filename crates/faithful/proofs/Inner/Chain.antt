@@ -78,7 +78,7 @@ popped-top m y e = ap (λ (r : Bool). did r (less m)) (by (top m.stack) e)
     by (some t) e = refl
 
 module _ (L' : List Op) (n : ℕ) (P Q : ℕ → ℕ) (goes : (t : ℕ) → move_to (length L') (Q t) ≡ P (move_to n t)) where
-  -- Steps from q lead to what `leaving` says: it never Stops.
+  -- Steps from q lead to what `leaving` says: it never stops.
   abbrev pub Arrives : ℕ → Mem → ℕ → Out → Type 0
   Arrives q m c (go p m₁) = Way L' q m (P p) m₁ c
   Arrives q m c (halt w) = ⊥

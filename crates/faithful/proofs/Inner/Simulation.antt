@@ -8,7 +8,7 @@ use Rattle.rules.specs.declared.Status.{Status}
 use Rattle.rules.specs.Instruction.{Act, push, Op, act, test, jump, label, goto, goto2, header, separator, end, call, return}
 use Rattle.rules.specs.Numbers.{at, move_to}
 use Rattle.rules.specs.Stack.{top, equals}
-use Rattle.rules.specs.Step.{Deed, ask, leap, enter, deed, Mem, Acted, did, Stops, perform, Out, go, halt, agree, branch, does, step_at, step}
+use Rattle.rules.specs.Step.{Deed, ask, leap, enter, deed, Mem, Acted, did, stops, perform, Out, go, halt, agree, branch, does, step_at, step}
 use Rattle.faithful.proofs.Inner.Places.{clash, move_in}
 
 -- ## What a step costs in the base
@@ -16,7 +16,7 @@ use Rattle.faithful.proofs.Inner.Places.{clash, move_in}
 -- A header: 1 if its body is entered, else 2.
 unfoldable pub fork_cost : Bool → Acted → ℕ
 fork_cost v (did r m) = cond (agree v r) 1 2
-fork_cost v (Stops s) = 1
+fork_cost v (stops s) = 1
 
 -- The chain for j, with t on top: 2 for each link that fails, 3 for the one that fits, 1 for the ##0 at its end.
 unfoldable pub link_cost : ℕ → Option ℕ → ℕ
@@ -82,7 +82,7 @@ both {P} S R = record {
   halts = λ i m w e. R.halts (P i) m w (S.halts i m w e);
 }
 
--- What a step Gives is met from position q on, at this cost.
+-- What a step gives is met from position q on, at this cost.
 abbrev pub Meets : List Op → (ℕ → ℕ) → ℕ → Mem → ℕ → Out → Type 0
 Meets L' P q m c (go j m₁) = Way L' q m (P j) m₁ c
 Meets L' P q m c (halt w) = step L' q m ≡ halt w
@@ -145,7 +145,7 @@ module _ (L' : List Op) (n : ℕ) (P : ℕ → ℕ) where
       where
         by : (x : Acted) → step L' q m ≡ branch v (here t') (here f') x → Meets L' P q m (cost (length L') o m) (branch v (there t) (there f) x)
         by (did r m₁) s = steps_to e s (chosen (agree v r) (there t) (there f) _ _ g h)
-        by (Stops w) s = s
+        by (stops w) s = s
 
     pub leapt : (o : Op) (k k' : ℕ) → at L' q ≡ some o → deed L' q o ≡ leap k' → Goes k' k → Way L' q m (P (there k)) m (cost (length L') o m)
     unfolding does
@@ -179,7 +179,7 @@ module _ (L' : List Op) (n : ℕ) (P : ℕ → ℕ) where
 
         by : (x : Acted) → step L' q m ≡ branch (not v) (here (suc q)) (here (suc (suc q))) x → Meets L' P q m (fork_cost v x) (branch v (there t) (there f) x)
         by (did r m₁) s = two (agree v r) m₁ (s ∙ ap (λ (b : Bool). go (cond b (here (suc q)) (here (suc (suc q)))) m₁) (turned v r))
-        by (Stops w) s = s
+        by (stops w) s = s
 
     -- A call that became a push and a jump.
     pub called : (r k k' : ℕ) → at L' q ≡ some (act (push r)) → at L' (suc q) ≡ some (jump k') → Goes k' k → Meets L' P q m 2 (does n (enter r k) m)
@@ -192,4 +192,4 @@ module _ (L' : List Op) (n : ℕ) (P : ℕ → ℕ) where
 
         by : (x : Acted) → step L' q m ≡ branch true (here (suc q)) (here (suc q)) x → Meets L' P q m 2 (branch true (there k) (there k) x)
         by (did b m₁) s = rw (same (agree true b) (there k)) (then_jumps k k' (s ∙ ap (λ (z : ℕ). go z m₁) (same (agree true b) _)) (cost_is L' q _ m e) e₁ g)
-        by (Stops w) s = s
+        by (stops w) s = s

@@ -12,10 +12,10 @@ use Rattle.ways.proofs.put_ways.Statement.{statement}
 use Rattle.ways.proofs.put_ways.Tie as tie
 
 abbrev invariant-loop : tie.invariant-loop
-invariant-loop s from to Stops ends headers t₀ k₀ t k = (from ≤ k) × (to < k → k ≡ from) × Put s from k t₀ t
+invariant-loop s from to stops ends headers t₀ k₀ t k = (from ≤ k) × (to < k → k ≡ from) × Put s from k t₀ t
 
 abbrev decreases-loop : tie.decreases-loop
-decreases-loop s from to Stops ends headers t₀ k₀ t k = to - k
+decreases-loop s from to stops ends headers t₀ k₀ t k = to - k
 
 -- Past the last record only where there was none to put.
 by_start : {from to k j : ℕ} → (to < k → k ≡ from) → from ≤ j → j < k → to ≤ k → j < to
