@@ -1,129 +1,117 @@
-// Reads a routine from standard input and prints its listing, or why it is refused. A program in Rattle cannot set its exit status: an
-// input that cannot be read to its end prints nothing, an output that cannot be written stays as far as it came, and each puts one line
-// on standard error.
+// Reads a routine from standard input and prints its listing, or why it is refused: exit status 0. An input that cannot be read to its
+// end prints nothing, an output that cannot be written stays as far as it came, and each puts one line on standard error: exit status 1.
+#![tactic(auto)]
+
 ghost use Rattle.std.specs.Prelude.{length};
 ghost use Rattle.list.specs.Input.{Within};
 
-use libc::{STDERR_FILENO, STDIN_FILENO, STDOUT_FILENO};
 use rules::{Refusal, Verdict};
+use std::io;
+use std::io::Read;
+use std::process::ExitCode;
 
-// How many bytes came, or that a read failed.
-#[derive(Drop)]
-pub enum Input {
-    Read(usize),
-    Failed,
-}
-
-// One read of standard input into the part lent: 0 bytes come where the input ends.
-fn read(part: &mut [u8]) -> Input
+// One read of standard input into the part lent, which says how many bytes came: 0 where the input ends.
+fn read(rt: &HostRuntime, part: &mut [u8]) -> io::Result<usize>
     ensures { Within result (length part.new) }
 {
-    let got = libc::read(STDIN_FILENO, part);
-    if got < 0 {
-        return Input::Failed;
-    }
-    Input::Read(io::count(got, part))
+    rt.stdin().read(part)
 }
 
 // Reads until the buffer is full or the input ends.
-fn read_full(buffer: &mut [u8]) -> Input
+fn read_full(rt: &HostRuntime, buffer: &mut [u8]) -> io::Result<usize>
     ensures { Within result (length buffer.new) }
 {
     let mut at = 0;
     while at < buffer.len() {
-        let input = read(&mut buffer[at..]);
-        let Input::Read(more) = input else {
-            return Input::Failed;
-        };
+        let more = read(rt, &mut buffer[at..])?;
         if more == 0 {
-            return Input::Read(at);
+            return Ok(at);
         }
         at += more;
     }
-    Input::Read(at)
+    Ok(at)
 }
 
 // Reads on into a buffer that is let go.
-fn read_more() -> Input {
-    let mut passed = io::buffer();
-    read(&mut passed)
+fn read_more(rt: &HostRuntime) -> io::Result<usize> {
+    let mut passed = [0u8; 4096];
+    read(rt, &mut passed)
 }
 
 // Reads to the end of the input. 0 says that nothing was left; else the answer is 8 to 15, with the remainder by 8 of the bytes that were.
-// A proved loop has to end, and nothing says that the input does: the turns are counted down from a number that no run uses up.
-fn read_rest() -> Input {
+// A proved loop has to end, and nothing says that the input does: the turns are as many as no run uses up.
+fn read_rest(rt: &HostRuntime) -> io::Result<usize> {
     let mut rest = 0;
-    let mut turns = u64::MAX;
-    while turns > 0 {
-        let input = read_more();
-        let Input::Read(more) = input else {
-            return Input::Failed;
-        };
+    for _ in 0..u64::MAX {
+        let more = read_more(rt)?;
         if more == 0 {
-            return Input::Read(rest);
+            return Ok(rest);
         }
         rest = 8 + (rest + more % 8) % 8;
-        turns -= 1;
     }
-    Input::Read(rest)
+    Ok(rest)
 }
 
-fn not_read() {
-    io::write_all(STDERR_FILENO, b"list: standard input cannot be read\n");
+// The end of a run that failed. Where the line cannot be written either, the exit status alone says so.
+fn not_done(rt: &HostRuntime, line: &str) -> ExitCode {
+    rt.eprintln(line).ok();
+    ExitCode::FAILURE
 }
 
-fn write(text: &[u8]) {
-    if !io::write_all(STDOUT_FILENO, text) {
-        io::write_all(STDERR_FILENO, b"list: standard output cannot be written\n");
+fn not_read(rt: &HostRuntime) -> ExitCode {
+    not_done(rt, "list: standard input cannot be read")
+}
+
+fn write(rt: &HostRuntime, text: &[u8]) -> ExitCode {
+    match rt.write_all(text) {
+        Ok(()) => ExitCode::SUCCESS,
+        Err(_) => not_done(rt, "list: standard output cannot be written"),
     }
 }
 
 // `refused`, number, place: at most 50 bytes.
-fn refuse(refusal: Refusal) {
+fn refuse(rt: &HostRuntime, refusal: Refusal) -> ExitCode {
     let mut line = [0u8; 50];
     let length = lines::refused_line(refusal, &mut line);
-    write(&line[..length]);
+    write(rt, &line[..length])
 }
 
 // The listing, for which 73,744 bytes have room whatever the routine is, or the line of its refusal.
-fn print(routine: &[u8]) {
+fn print(rt: &HostRuntime, routine: &[u8]) -> ExitCode {
     let mut text = [0u8; 73744];
     let listed = listing::list(routine, &mut text);
     match listed {
-        Verdict::Refused(refusal) => refuse(refusal),
-        Verdict::Accepted(length) => write(&text[..length]),
+        Verdict::Refused(refusal) => refuse(rt, refusal),
+        Verdict::Accepted(length) => write(rt, &text[..length]),
     }
 }
 
 // The first 4,096 bytes of the input are in hand, and behind them came what `read_rest` says.
-fn print_start(start: &[u8], rest: usize) {
+fn print_start(rt: &HostRuntime, start: &[u8], rest: usize) -> ExitCode {
     if rest == 0 {
-        print(start);
+        print(rt, start)
     } else if rest % 8 == 0 {
-        refuse(Refusal::Long);
+        refuse(rt, Refusal::Long)
     } else {
-        refuse(Refusal::Ragged);
+        refuse(rt, Refusal::Ragged)
     }
 }
 
 // A routine has at most 4,096 bytes. Of a longer input only its length matters, so the rest is read and let go.
-fn print_input(start: &[u8]) {
+fn print_input(rt: &HostRuntime, start: &[u8]) -> ExitCode {
     if start.len() < 4096 {
-        print(start);
-        return;
+        return print(rt, start);
     }
-    let rest = read_rest();
-    match rest {
-        Input::Failed => not_read(),
-        Input::Read(more) => print_start(start, more),
+    match read_rest(rt) {
+        Ok(more) => print_start(rt, start, more),
+        Err(_) => not_read(rt),
     }
 }
 
-fn main() {
-    let mut buffer = io::buffer();
-    let input = read_full(&mut buffer);
-    match input {
-        Input::Failed => not_read(),
-        Input::Read(length) => print_input(&buffer[..length]),
+fn main(rt: HostRuntime) -> ExitCode {
+    let mut buffer = [0u8; 4096];
+    match read_full(&rt, &mut buffer) {
+        Ok(length) => print_input(&rt, &buffer[..length]),
+        Err(_) => not_read(&rt),
     }
 }

@@ -1,15 +1,17 @@
 // The checks of the three notations on bad input: what was tried and what was answered, a line each.
+#![tactic(auto)]
+
 use checks::check_records;
-use libc::STDOUT_FILENO;
 use records::put_record;
 use rules::{Notation, Verdict};
+use std::io;
 
-fn word(text: &[u8]) {
-    io::write_all(STDOUT_FILENO, text);
+fn word(rt: &HostRuntime, text: &[u8]) -> io::Result<()> {
+    rt.write_all(text)
 }
 
-fn number(n: usize) {
-    io::print_decimal(STDOUT_FILENO, n as u64);
+fn number(rt: &HostRuntime, n: usize) -> io::Result<()> {
+    rt.print(n)
 }
 
 // The first n bytes; all where there are fewer.
@@ -21,12 +23,12 @@ fn part(s: &[u8], n: usize) -> &[u8] {
 }
 
 // What was tried, and what was answered. Two numbers and a word have at most 50 bytes.
-fn verdict(tried: &[u8], verdict: Verdict) {
+fn verdict(rt: &HostRuntime, tried: &[u8], verdict: Verdict) -> io::Result<()> {
     let mut text = [0u8; 50];
     let n = show::put_answer(verdict, &mut text);
-    word(tried);
-    word(b": ");
-    word(part(&text, n));
+    word(rt, tried)?;
+    word(rt, b": ")?;
+    word(rt, part(&text, n))
 }
 
 // 0 where the file is accepted, else the refusal's number.
@@ -43,112 +45,111 @@ fn first(notation: Notation, s: &[u8], n: usize) -> Verdict {
 }
 
 // Files of 0 to 17 bytes, all zero.
-fn short_files() {
+fn short_files(rt: &HostRuntime) -> io::Result<()> {
     let zeros = [0u8; 17];
     for n in 0..18 {
-        number(n);
-        verdict(b" zero bytes", first(Notation::Routine, &zeros, n));
+        number(rt, n)?;
+        verdict(rt, b" zero bytes", first(Notation::Routine, &zeros, n))?;
     }
+    Ok(())
 }
 
 // Every record a1.
 fn fill(s: &mut [u8]) {
-    let n = s.len() / 8;
-    let mut i = 0;
-    while i < n {
+    for i in 0..s.len() / 8 {
         put_record(&mut s[8 * i..], 1, 1, 0);
-        i += 1;
     }
 }
 
 // As many records as allowed, and one more.
-fn long_files(notation: Notation, bytes: usize) {
+fn long_files(rt: &HostRuntime, notation: Notation, bytes: usize) -> io::Result<()> {
     let mut s = [0u8; 32776];
     fill(&mut s);
-    verdict(b"as long as allowed", first(notation, &s, bytes));
+    verdict(rt, b"as long as allowed", first(notation, &s, bytes))?;
     if bytes <= 32768 {
-        verdict(b"one record more", first(notation, &s, bytes + 8));
+        verdict(rt, b"one record more", first(notation, &s, bytes + 8))?;
     }
+    Ok(())
 }
 
 // The answer to one record, as a number.
-fn record(notation: Notation, kind: u8, x: u16, y: u16) {
+fn record(rt: &HostRuntime, notation: Notation, kind: u8, x: u16, y: u16) -> io::Result<()> {
     let mut s = [0u8; 8];
     put_record(&mut s, kind, x, y);
-    number(refusal(check_records(notation, &s)));
+    number(rt, refusal(check_records(notation, &s)))
 }
 
 // Every kind, with the same x and y.
-fn every_kind(notation: Notation, x: u16, y: u16) {
-    word(b"kinds 0 to 255: ");
-    let mut kind: usize = 0;
-    while kind < 256 {
-        record(notation, (kind % 256) as u8, x, y);
-        kind += 1;
+fn every_kind(rt: &HostRuntime, notation: Notation, x: u16, y: u16) -> io::Result<()> {
+    word(rt, b"kinds 0 to 255: ")?;
+    for kind in 0..=255 {
+        record(rt, notation, kind, x, y)?;
     }
-    word(b"\n");
+    word(rt, b"\n")
 }
 
 // One kind, with x at the bounds of every range and one beyond.
-fn every_x(notation: Notation, kind: u8, y: u16) {
-    record(notation, kind, 0, y);
-    record(notation, kind, 1, y);
-    record(notation, kind, 999, y);
-    record(notation, kind, 1000, y);
-    record(notation, kind, 1001, y);
-    record(notation, kind, 1002, y);
-    record(notation, kind, 1003, y);
-    record(notation, kind, 1004, y);
-    record(notation, kind, 9999, y);
-    record(notation, kind, 10000, y);
-    record(notation, kind, 65535, y);
-    word(b" ");
+fn every_x(rt: &HostRuntime, notation: Notation, kind: u8, y: u16) -> io::Result<()> {
+    record(rt, notation, kind, 0, y)?;
+    record(rt, notation, kind, 1, y)?;
+    record(rt, notation, kind, 999, y)?;
+    record(rt, notation, kind, 1000, y)?;
+    record(rt, notation, kind, 1001, y)?;
+    record(rt, notation, kind, 1002, y)?;
+    record(rt, notation, kind, 1003, y)?;
+    record(rt, notation, kind, 1004, y)?;
+    record(rt, notation, kind, 9999, y)?;
+    record(rt, notation, kind, 10000, y)?;
+    record(rt, notation, kind, 65535, y)?;
+    word(rt, b" ")
 }
 
 // The same with y at its bounds.
-fn every_field(notation: Notation) {
+fn every_field(rt: &HostRuntime, notation: Notation) -> io::Result<()> {
     for k in 1..20 {
         let kind = k as u8;
-        word(b"fields of kind ");
-        number(k);
-        word(b": ");
-        every_x(notation, kind, 0);
-        every_x(notation, kind, 1);
-        every_x(notation, kind, 999);
-        every_x(notation, kind, 1000);
-        every_x(notation, kind, 9999);
-        every_x(notation, kind, 10000);
-        word(b"\n");
+        word(rt, b"fields of kind ")?;
+        number(rt, k)?;
+        word(rt, b": ")?;
+        every_x(rt, notation, kind, 0)?;
+        every_x(rt, notation, kind, 1)?;
+        every_x(rt, notation, kind, 999)?;
+        every_x(rt, notation, kind, 1000)?;
+        every_x(rt, notation, kind, 9999)?;
+        every_x(rt, notation, kind, 10000)?;
+        word(rt, b"\n")?;
     }
+    Ok(())
 }
 
 // A good record with one byte that should be zero and is not.
-fn spare_bytes() {
+fn spare_bytes(rt: &HostRuntime) -> io::Result<()> {
     for at in 0..8 {
         let mut s = [0u8; 16];
         fill(&mut s);
         s[8 + at] = 1;
-        word(b"byte ");
-        number(at);
-        verdict(b" of record 2 is 1", check_records(Notation::Base, &s));
+        word(rt, b"byte ")?;
+        number(rt, at)?;
+        verdict(rt, b" of record 2 is 1", check_records(Notation::Base, &s))?;
     }
+    Ok(())
 }
 
-fn notation(notation: Notation, bytes: usize) {
-    long_files(notation, bytes);
-    every_kind(notation, 0, 0);
-    every_kind(notation, 1, 0);
-    every_kind(notation, 1, 1);
-    every_field(notation);
+fn notation(rt: &HostRuntime, notation: Notation, bytes: usize) -> io::Result<()> {
+    long_files(rt, notation, bytes)?;
+    every_kind(rt, notation, 0, 0)?;
+    every_kind(rt, notation, 1, 0)?;
+    every_kind(rt, notation, 1, 1)?;
+    every_field(rt, notation)
 }
 
-fn main() {
-    short_files();
-    word(b"routine\n");
-    notation(Notation::Routine, 4096);
-    word(b"base\n");
-    notation(Notation::Base, 32768);
-    word(b"relative base\n");
-    notation(Notation::Relative, 32768);
-    spare_bytes();
+fn main(rt: HostRuntime) -> io::Result<()> {
+    short_files(&rt)?;
+    word(&rt, b"routine\n")?;
+    notation(&rt, Notation::Routine, 4096)?;
+    word(&rt, b"base\n")?;
+    notation(&rt, Notation::Base, 32768)?;
+    word(&rt, b"relative base\n")?;
+    notation(&rt, Notation::Relative, 32768)?;
+    spare_bytes(&rt)
 }

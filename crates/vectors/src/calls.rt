@@ -6,15 +6,16 @@ use crate::print::{answer_line, named, word};
 use lower::convert;
 use partners::Sort;
 use rules::Verdict;
+use std::io;
 use tables::{fill_headers, fill_stops, look};
 
-fn print_name(what: u8) {
+fn print_name(rt: &HostRuntime, what: u8) -> io::Result<()> {
     match what {
-        0 => word(b"check"),
-        1 => word(b"convert"),
-        2 => word(b"list"),
-        3 => word(b"to relative"),
-        _ => word(b"to absolute"),
+        0 => word(rt, b"check"),
+        1 => word(rt, b"convert"),
+        2 => word(rt, b"list"),
+        3 => word(rt, b"to relative"),
+        _ => word(rt, b"to absolute"),
     }
 }
 
@@ -42,58 +43,61 @@ fn written(what: u8, n: usize) -> usize {
 }
 
 // A line with the first so many bytes of the output, where there are any.
-fn print_written(out: &[u8], n: usize) {
+fn print_written(rt: &HostRuntime, out: &[u8], n: usize) -> io::Result<()> {
     if n != 0 {
-        word(b"   ");
-        print_records(part(out, 0, n));
-        word(b"\n");
+        word(rt, b"   ")?;
+        print_records(rt, part(out, 0, n))?;
+        word(rt, b"\n")?;
     }
+    Ok(())
 }
 
 // What a check, a conversion, a listing or a translation answers, and what it wrote.
-pub fn judge(what: u8, case: &[u8], s: &[u8]) {
+pub fn judge(rt: &HostRuntime, what: u8, case: &[u8], s: &[u8]) -> io::Result<()> {
     let mut out = [0u8; 73744];
     let verdict = answer(what, s, &mut out);
-    print_name(what);
-    print_records(case);
-    answer_line(verdict);
+    print_name(rt, what)?;
+    print_records(rt, case)?;
+    answer_line(rt, verdict)?;
     if let Verdict::Accepted(n) = verdict {
-        print_written(&out, written(what, n));
+        print_written(rt, &out, written(what, n))?;
     }
+    Ok(())
 }
 
 // A budget that no case uses up but one that never ends.
 const BUDGET: u64 = 1000000;
 
-pub fn run(s: &[u8], replies: &[u8]) {
+pub fn run(rt: &HostRuntime, s: &[u8], replies: &[u8]) -> io::Result<()> {
     let mut log = [0u8; 64];
     let ran = machine::run_routine(s, replies, &mut log, BUDGET);
-    word(b"run");
-    print_records(s);
-    print_ran(replies, ran, &log);
+    word(rt, b"run")?;
+    print_records(rt, s)?;
+    print_ran(rt, replies, ran, &log)
 }
 
 // The same of the base that the routine becomes.
-pub fn run_base_of(s: &[u8], replies: &[u8]) {
+pub fn run_base_of(rt: &HostRuntime, s: &[u8], replies: &[u8]) -> io::Result<()> {
     let mut base = [0u8; 32768];
     let mut work = [0u8; 32768];
     let mut log = [0u8; 64];
     let converted = convert(s, &mut base, &mut work);
     if let Verdict::Accepted(n) = converted {
         let ran = machine::run_base(part(&base, 0, written(1, n)), replies, &mut log, BUDGET);
-        word(b"run the base of");
-        print_records(s);
-        print_ran(replies, ran, &log);
+        word(rt, b"run the base of")?;
+        print_records(rt, s)?;
+        print_ran(rt, replies, ran, &log)?;
     }
+    Ok(())
 }
 
-fn print_asked(what: u8) {
+fn print_asked(rt: &HostRuntime, what: u8) -> io::Result<()> {
     match what {
-        7 => word(b" loop end of "),
-        8 => word(b" loop header of "),
-        9 => word(b" end of "),
-        10 => word(b" end of the first arm of "),
-        _ => word(b" target of "),
+        7 => word(rt, b" loop end of "),
+        8 => word(rt, b" loop header of "),
+        9 => word(rt, b" end of "),
+        10 => word(rt, b" end of the first arm of "),
+        _ => word(rt, b" target of "),
     }
 }
 
@@ -122,14 +126,14 @@ fn found(what: u8, s: &[u8], x: u16, y: u16) -> usize {
 }
 
 // A lookup of numbers x and y, of which 0 is not printed. One that finds nothing answers 0.
-pub fn find(what: u8, case: &[u8], s: &[u8], x: u16, y: u16) {
-    word(b"in");
-    print_records(case);
-    print_asked(what);
-    named(b"", x as usize);
+pub fn find(rt: &HostRuntime, what: u8, case: &[u8], s: &[u8], x: u16, y: u16) -> io::Result<()> {
+    word(rt, b"in")?;
+    print_records(rt, case)?;
+    print_asked(rt, what)?;
+    named(rt, b"", x as usize)?;
     if y != 0 {
-        named(b" ", y as usize);
+        named(rt, b" ", y as usize)?;
     }
-    named(b": ", found(what, s, x, y));
-    word(b"\n");
+    named(rt, b": ", found(what, s, x, y))?;
+    word(rt, b"\n")
 }

@@ -1,6 +1,8 @@
 // Runs the cases that the paper checks by hand, the examples of its source, and routines whose shape is easily judged wrong through the
 // public calls. It prints for each what was tried and what was got. `cases.txt` has the cases as the paper writes them; `make.py` beside
 // it makes standard input of them. There a case is two records, which say what to do, and then the records to do it with.
+#![tactic(auto)]
+
 mod answers;
 mod calls;
 mod notation;
@@ -10,6 +12,8 @@ ghost use Rattle.std.specs.Prelude.{◌≤◌, ◌<◌, length};
 
 use notation::expand;
 use records::{kind_at, x_at, y_at};
+use std::io;
+use std::io::Read;
 
 // So many bytes from a place on; none where there are not as many.
 fn part(s: &[u8], from: usize, n: usize) -> &[u8] {
@@ -25,18 +29,18 @@ fn part(s: &[u8], from: usize, n: usize) -> &[u8] {
 
 // The first of the two records has in its kind what to do, in x how many records follow and in y how many replies; the second is the
 // replies, or has the numbers of a lookup in x and y.
-fn try_case(case: &[u8]) {
+fn try_case(rt: &HostRuntime, case: &[u8]) -> io::Result<()> {
     let what = kind_at(case, 1);
     let records = part(case, 16, 8 * x_at(case, 1) as usize);
-    let mut file = io::buffer();
+    let mut file = [0u8; 4096];
     let n = expand(records, &mut file);
     let s = &file[..n];
     let replies = part(case, 8, y_at(case, 1) as usize);
     match what {
-        0..=4 => calls::judge(what, records, s),
-        5 => calls::run(s, replies),
-        6 => calls::run_base_of(s, replies),
-        _ => calls::find(what, records, s, x_at(case, 2), y_at(case, 2)),
+        0..=4 => calls::judge(rt, what, records, s),
+        5 => calls::run(rt, s, replies),
+        6 => calls::run_base_of(rt, s, replies),
+        _ => calls::find(rt, what, records, s, x_at(case, 2), y_at(case, 2)),
     }
 }
 
@@ -53,17 +57,21 @@ fn size_of(cases: &[u8]) -> usize
     }
 }
 
-fn try_all(cases: &[u8]) {
+fn try_all(rt: &HostRuntime, cases: &[u8]) -> io::Result<()> {
     let mut at = 0;
     while at < cases.len() {
         let size = size_of(&cases[at..]);
-        try_case(&cases[at..]);
+        try_case(rt, &cases[at..])?;
         at += size;
     }
+    Ok(())
 }
 
-fn main() {
-    let mut input = io::large_buffer();
-    let n = io::read_full(libc::STDIN_FILENO, &mut input);
-    try_all(&input[..n]);
+// No more of the input is read.
+const MOST_INPUT: u64 = 65536;
+
+fn main(rt: HostRuntime) -> io::Result<()> {
+    let mut input = Vec::new(rt.alloc());
+    rt.stdin().take(MOST_INPUT).read_to_end(&mut input)?;
+    try_all(&rt, &input)
 }

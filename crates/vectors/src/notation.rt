@@ -1,9 +1,9 @@
 // The records of a case.
-ghost use Rattle.std.specs.Prelude.{◌≤◌, length};
-ghost use Rattle.io.specs.Counts.{IsPrefixLen};
+ghost use Rattle.std.specs.Prelude.{◌≡◌, ◌≤◌, length, take};
 
 use crate::print::{named, record, word};
 use records::{kind_at, number, put_record, x_at, y_at};
+use std::io;
 
 // How often record i stands in a row: a case has that in bytes 6 and 7, where 0 is once.
 fn times_at(s: &[u8], i: usize) -> usize {
@@ -18,24 +18,22 @@ fn times_at(s: &[u8], i: usize) -> usize {
     if times == 0 { 1 } else { times as usize }
 }
 
-fn print_one(s: &[u8], i: usize) {
+fn print_one(rt: &HostRuntime, s: &[u8], i: usize) -> io::Result<()> {
     let times = times_at(s, i);
-    word(b" ");
+    word(rt, b" ")?;
     if times != 1 {
-        named(b"", times);
-        word(b" x ");
+        named(rt, b"", times)?;
+        word(rt, b" x ")?;
     }
-    record(kind_at(s, i), x_at(s, i), y_at(s, i));
-    word(b";");
+    record(rt, kind_at(s, i), x_at(s, i), y_at(s, i))?;
+    word(rt, b";")
 }
 
-pub fn print_records(s: &[u8]) {
-    let n = s.len() / 8;
-    let mut i = 0;
-    while i < n {
-        i += 1;
-        print_one(s, i);
+pub fn print_records(rt: &HostRuntime, s: &[u8]) -> io::Result<()> {
+    for i in 0..s.len() / 8 {
+        print_one(rt, s, i + 1)?;
     }
+    Ok(())
 }
 
 // A record so many times, where there is room; answers the bytes written.
@@ -51,13 +49,12 @@ fn repeat(kind: u8, x: u16, y: u16, times: usize, out: &mut [u8]) -> usize
 
 // The records of a case at the start of a buffer, each as often as it stands; answers the bytes written.
 pub fn expand(s: &[u8], out: &mut [u8]) -> usize
-    ensures { IsPrefixLen result out.new }
+    ensures within { result ≤ length out.new }
+    ensures counted { result ≡ length (take result out.new) }
 {
-    let n = s.len() / 8;
     let mut at = 0;
-    let mut i = 0;
-    while i < n {
-        i += 1;
+    for turn in 0..s.len() / 8 {
+        let i = turn + 1;
         at += repeat(
             kind_at(s, i),
             x_at(s, i),
