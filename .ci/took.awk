@@ -1,10 +1,6 @@
-# What the gate took, as a table. Reads the lines of `rt ci` and the gate's own, `part SECONDS NAME`; passes over every other line.
-# Proofs and edits run several at a time and share the processors: their seconds are by the clock, and add up to more than the gate took.
-function seconds(    words, n) {
-    n = split($0, words, /[ (]/)
-    return words[n - 1]
-}
-
+# What the gate took, as a table. Reads the lines of `rt ci`, each behind the seconds until it came, and the gate's own,
+# `part SECONDS NAME`; passes over every other line. Crates are proved several at a time, so a crate has here the second at which it
+# was done, and "kept" if an earlier run on this machine had proved it.
 function crate(name) {
     if (!(name in known)) {
         known[name] = 1
@@ -13,18 +9,17 @@ function crate(name) {
     return name
 }
 
-/^rt: [a-z0-9_]+ proved \([0-9]+ s\)$/ { proof[crate($2)] = seconds() }
+/^[0-9]+ rt: [a-z0-9_]+ proved$/ { proof[crate($3)] = $1; proofs++ }
 
-/^rt: must-fail [a-z0-9_]+\/.*: refused, .*[ (][0-9]+ s\)$/ {
-    split($3, name, "/")
+/^[0-9]+ rt: [a-z0-9_]+ is kept: / { proof[crate($3)] = "kept" }
+
+/^[0-9]+ rt: must-fail [a-z0-9_]+\/.*: refused, / {
+    split($4, name, "/")
     edits[crate(name[1])]++
-    edited[name[1]] += seconds()
+    tried++
 }
 
-/^rt: [a-z0-9_]+ ran.* \([0-9]+ s\)$/ {
-    programs++
-    run += seconds()
-}
+/^[0-9]+ rt: [a-z0-9_]+ ran, / { programs++ }
 
 /^part [0-9]+ / {
     took[++parts] = $2
@@ -32,17 +27,14 @@ function crate(name) {
 }
 
 END {
-    row = "%-24s %8s %8s %8s\n"
-    printf row, "crate", "proof s", "edits", "edits s"
+    row = "%-24s %12s %14s\n"
+    printf row, "crate", "proved at s", "edits refused"
     for (i = 1; i <= count; i++) {
         c = crates[i]
-        printf row, c, c in proof ? proof[c] : "-", edits[c] + 0, edited[c] + 0
-        proofs += proof[c]
-        tried += edits[c]
-        tries += edited[c]
+        printf row, c, c in proof ? proof[c] : "-", edits[c] + 0
     }
-    printf row, "all " count, proofs + 0, tried + 0, tries + 0
-    printf "%-24s %8s\n", "programs run, " programs + 0, run + 0
+    printf row, "all " count, proofs + 0 " new", tried + 0
+    printf "programs run: %d\n\n%-24s %12s\n", programs, "part", "seconds"
     for (i = 1; i <= parts; i++)
-        printf "%-24s %8s\n", part[i], took[i]
+        printf "%-24s %12s\n", part[i], took[i]
 }

@@ -1,9 +1,9 @@
 #!/bin/sh
 # Gives the built program what is no routine. Each time it must end by itself and print one line, or a listing as long as it says.
 # Where the input cannot be read, or the output not written, it must print nothing and say so in one line on standard error.
-# One line a try; fails where one is wrong. Usage: examples/bad_input.sh [PROGRAM], after `rt check list`.
+# One line a try; fails where one is wrong. Usage: examples/bad_input.sh [PROGRAM], after `rt ci`, or `rt run` in crates/list.
 cd "$(dirname "$0")" || exit 1
-program=${1:-../target/bin/list}
+program=${1:-../crates/list/out/list}
 
 # try NAME [FIRST]: what the program prints on this standard input; its first line is FIRST, where that is given.
 try() {

@@ -1,8 +1,8 @@
 #!/bin/sh
 # Lists every NAME.routine here with the built program and compares with NAME.listing. One line a file; fails on a difference.
-# Usage: examples/compare.sh [PROGRAM], after `rt check list`.
+# Usage: examples/compare.sh [PROGRAM], after `rt ci`, or `rt run` in crates/list.
 cd "$(dirname "$0")" || exit 1
-program=${1:-../target/bin/list}
+program=${1:-../crates/list/out/list}
 passed=0
 failed=0
 for routine in *.routine; do

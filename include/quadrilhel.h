@@ -1,8 +1,8 @@
 /* Quadrilhel: settlement routines, their numbered base, and runs of both.
  *
- * Link with libabi.a, which `rt staticlib abi` makes in target/staticlib:
+ * Link with libabi.a, which `rt lib` in crates/abi makes in crates/abi/out:
  *
- *     cc -Iinclude program.c -Ltarget/staticlib -labi -o program
+ *     cc -Iinclude program.c -Lcrates/abi/out -labi -o program
  *
  * Routines, bases and relative bases are bytes, eight to a record:
  *

@@ -1,7 +1,7 @@
 /* The incident: a routine, its base and the base of a converter that did not count
  * one inserted line, run on the same replies.
  *
- *     cc -std=c99 -Iinclude examples/c/incident.c -Ltarget/staticlib -labi -o incident
+ *     cc -std=c99 -Iinclude examples/c/incident.c -Lcrates/abi/out -labi -o incident
  *     ./incident examples        the directory that holds the three files
  */
 #include "quadrilhel.h"

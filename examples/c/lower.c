@@ -1,6 +1,6 @@
 /* Converts a routine and prints the records of its base.
  *
- *     cc -std=c99 -Iinclude examples/c/lower.c -Ltarget/staticlib -labi -o lower
+ *     cc -std=c99 -Iinclude examples/c/lower.c -Lcrates/abi/out -labi -o lower
  *     ./lower                   the example routine, then the same one spoiled
  *     ./lower routine-file      the routine in a file
  */

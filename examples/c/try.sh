@@ -1,6 +1,6 @@
 #!/bin/sh
-# Builds the C examples against the static library and compares what each prints with its .expected file, and the texts with their
-# routines.
+# Builds the C examples against the static library, which `rt lib` in crates/abi makes, and compares what each prints with its .expected
+# file, and the texts with their routines.
 set -eu
 cd "$(dirname "$0")/../.."
 made=$(mktemp -d)
@@ -8,7 +8,7 @@ trap 'rm -rf "$made"' EXIT
 
 # build NAME: the program of examples/c/NAME.c.
 build() {
-    cc -std=c99 -Wall -Wextra -Werror -Iinclude "examples/c/$1.c" -Ltarget/staticlib -labi -o "$made/$1"
+    cc -std=c99 -Wall -Wextra -Werror -Iinclude "examples/c/$1.c" -Lcrates/abi/out -labi -o "$made/$1"
 }
 
 for name in lower incident; do

@@ -1,6 +1,6 @@
 /* Typed routines: text to records, and records to text.
  *
- *     cc -std=c99 -Iinclude examples/c/typed.c -Ltarget/staticlib -labi -o typed
+ *     cc -std=c99 -Iinclude examples/c/typed.c -Lcrates/abi/out -labi -o typed
  *     ./typed read examples/names.list < examples/incident.text > incident.routine
  *     ./typed write examples/names.list < incident.routine
  *

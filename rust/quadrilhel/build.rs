@@ -19,20 +19,20 @@ fn main() {
     }
 }
 
-/// What the caller names, or where `rt staticlib` puts its libraries.
+/// What the caller names, or where `rt lib` puts the library.
 fn library_place() -> PathBuf {
     match env::var_os(PLACE) {
         Some(named) => PathBuf::from(named),
         None => {
             let manifest = env::var_os("CARGO_MANIFEST_DIR").unwrap_or_default();
-            Path::new(&manifest).join("../../target/staticlib")
+            Path::new(&manifest).join("../../crates/abi/out")
         }
     }
 }
 
 fn what_to_do(library: &Path) -> String {
     format!(
-        "the proved library {} is not there: run `rt staticlib abi` in the repository's root, \
+        "the proved library {} is not there: run `rt lib` in the repository's crates/abi, \
          or set {PLACE} to the directory that holds libabi.a",
         library.display()
     )
