@@ -1,4 +1,6 @@
 // What C and Rust call: byte slices and numbers in, a struct of the paper's numbers out. Each call answers what the crate below answers.
+#![tactic(auto)]
+
 ghost use Rattle.std.specs.Prelude.{◌≡◌};
 ghost use Rattle.rules.specs.Record.{records};
 ghost use Rattle.rules.specs.Relative.{to_relative, to_absolute};

@@ -1,4 +1,6 @@
 // Stage 2: calls and returns (4.1, 4.2).
+#![tactic(auto)]
+
 ghost use Rattle.std.specs.Prelude.{[], ◌∷◌, ◌≤◌};
 ghost use Rattle.rules.specs.Record.{rec, count};
 ghost use Rattle.records.specs.Reading.{rec_at};

@@ -1,4 +1,6 @@
 // Refusals 1 to 4, for a routine, a base and a relative base alike.
+#![tactic(auto)]
+
 ghost use Rattle.std.specs.Prelude.{◌≡◌, ◌*◌, ◌<◌, drop};
 ghost use Rattle.std.proofs.Math.Option.{some};
 ghost use Rattle.rules.specs.Record.{record_of, spare_zero, count};

@@ -1,4 +1,6 @@
 // Stage 4: conditionals (3.2, 3.3).
+#![tactic(auto)]
+
 ghost use Rattle.std.specs.Prelude.{◌≤◌};
 ghost use Rattle.rules.specs.Record.{count};
 ghost use Rattle.rules.specs.Instruction.{conditional};

@@ -1,17 +1,17 @@
 -- The actions of a record, where it stands in its file, and the kinds that are no instruction.
-use mathlib.Core.Path.{◌≡◌, refl, sym, ◌∙◌}
+use mathlib.Core.Path.{◌≡◌, refl, sym}
 use Prim.Native.Nat.{ℕ, suc, ◌+◌, ◌-◌, ◌≤◌, ◌<◌}
 use native.Mathlib.Omega.{arith}
 use mathlib.Core.Bool.{Bool, true, false}
 use mathlib.Core.List.{List}
-use lib.ListN.{length, get_or, get_or-eq_default}
+use lib.ListN.{length, get_or-eq_default}
 use lib.Dec.{leb}
 use borrow.Author.Tests.{leb-true, leb-false, ne_eqb}
 use Rattle.rules.specs.Record.{count}
 use Rattle.records.specs.Reading.{rec_at}
 use Rattle.ways.proofs.Places.{from_one, in_file}
 use Rattle.deeds.specs.declared.Own.TheVariants.{Push, Pop}
-use Rattle.deeds.specs.declared.Deed.TheVariants.{Leap, Ask, Change, Compare, Return}
+use Rattle.deeds.specs.declared.Deed.TheVariants.{Leap, Ask, Change, Compare}
 use Rattle.deeds.specs.Deeds.{asking, rows, place_in, deed_of}
 
 pub none_in : (ps : List ℕ) (i : ℕ) → length ps < i → 0 ≡ place_in ps i

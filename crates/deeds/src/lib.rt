@@ -1,4 +1,6 @@
 // What a record does, with its numbers worked out, at the moment it is run.
+#![tactic(auto)]
+
 ghost use Rattle.std.specs.Prelude.{◌≡◌, List, ℕ, ◌+◌, ◌≤◌, ◌<◌, ◌^◌};
 ghost use Rattle.rules.specs.Record.{count};
 ghost use Rattle.records.specs.Reading.{rec_at};
@@ -7,7 +9,7 @@ ghost use Rattle.deeds.specs.Deeds.{place_in, asking, deed_of};
 use records::{kind_at, x_at, y_at};
 
 // The actions that change the counter stack.
-#[derive(Drop)]
+#[derive(Clone, Copy)]
 pub enum Own {
     Push(u16),
     Pop,
@@ -15,7 +17,7 @@ pub enum Own {
 
 // Go to the place; do the outside action, change the counter stack, or compare its top with the number, with the places on yes and on no;
 // go back to the number on top.
-#[derive(Drop)]
+#[derive(Clone, Copy)]
 pub enum Deed {
     Leap(usize),
     Ask(u16, usize, usize),

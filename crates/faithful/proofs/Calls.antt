@@ -6,7 +6,6 @@ use Rattle.rules.specs.Instruction.{conditional, loop, Op, act, test, jump, labe
 use Rattle.rules.specs.Numbers.{each}
 use Rattle.rules.specs.Calls.{uncall, calls}
 use Rattle.faithful.proofs.Inner.Places.{place}
-use Rattle.faithful.proofs.Inner.Turns as Turns
 use Rattle.faithful.proofs.Inner.Turns.{rank, Good, Turns, keeps, returns}
 use Rattle.faithful.proofs.Inner.Stage.{Staged, staged}
 

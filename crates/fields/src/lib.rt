@@ -1,4 +1,6 @@
 // The numbers of one record: the ranges that its kind's row gives, and the counter stack's own actions.
+#![tactic(auto)]
+
 ghost use Rattle.std.specs.Prelude.{◌≡◌, ◌&&◌};
 ghost use Rattle.std.proofs.Math.Option.{some};
 ghost use Rattle.rules.specs.Record.{rec};

@@ -1,4 +1,6 @@
 // The form that a text follows furthest. Forms that begin alike are followed together, and parted by the first byte in which they differ.
+#![tactic(auto)]
+
 ghost use Rattle.std.specs.Prelude.{◌≡◌};
 ghost use Rattle.text.specs.Forms.{best_of};
 ghost use Rattle.forms.specs.Families.{of_tests, of_ends};

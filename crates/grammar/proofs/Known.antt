@@ -12,7 +12,7 @@ use Rattle.rules.specs.Words.{ℕ, zero, suc, ◌+◌, ◌-◌, true, cond, List
 use Rattle.rules.specs.Record.{Rec}
 use Rattle.text.specs.declared.Sort.TheVariants.{Blank}
 use Rattle.text.specs.declared.Fit.{Fit}
-use Rattle.text.specs.declared.TextRefusal.TheVariants.{Text, Name}
+use Rattle.text.specs.declared.TextRefusal.TheVariants.{Name}
 use Rattle.text.specs.Bytes.{run, span}
 use Rattle.text.specs.Forms.{a, k, s, signs_of, letter_of, fit, best_of}
 use Rattle.text.specs.Names.{name_at, number_at, place_of, action_of, label_of, with_label}

@@ -43,7 +43,8 @@ span_exact c pre (b ∷ n) z (suc m) p lt h =
     let e : byte_at (pre ++ (b ∷ (n ++ z))) (length pre) ≡ b = get_or-append_seam pre b (n ++ z) 0 in
     let l : suc (length pre) ≡ length (pre ++ (b ∷ [])) = sym (length-append pre (b ∷ []) ∙ omega arith) in
     let r : span c ((pre ++ (b ∷ [])) ++ (n ++ z)) (length (pre ++ (b ∷ []))) m ≡ length n = span_exact c (pre ++ (b ∷ [])) n z m p.1 (le_of_suc-le-suc lt) h in
-    rw (e, p.0, l, ← append_snoc pre b (n ++ z)) (ap suc r)
+    let s : pre ++ ((b ∷ n) ++ z) ≡ (pre ++ (b ∷ [])) ++ (n ++ z) = sym (append_snoc pre b (n ++ z)) in
+    rw (e, p.0, l) (ap (λ (w : List ℕ). suc (length (run c w (length (pre ++ (b ∷ []))) m))) s ∙ ap suc r)
 
 -- Looking at no more than those.
 pub span_all : (c : Sort) (pre n z : List ℕ) → All c n → span c (pre ++ (n ++ z)) (length pre) (length n) ≡ length n
@@ -53,7 +54,8 @@ span_all c pre (b ∷ n) z p =
     let e : byte_at (pre ++ (b ∷ (n ++ z))) (length pre) ≡ b = get_or-append_seam pre b (n ++ z) 0 in
     let l : suc (length pre) ≡ length (pre ++ (b ∷ [])) = sym (length-append pre (b ∷ []) ∙ omega arith) in
     let r : span c ((pre ++ (b ∷ [])) ++ (n ++ z)) (length (pre ++ (b ∷ []))) (length n) ≡ length n = span_all c (pre ++ (b ∷ [])) n z p.1 in
-    rw (e, p.0, l, ← append_snoc pre b (n ++ z)) (ap suc r)
+    let s : pre ++ ((b ∷ n) ++ z) ≡ (pre ++ (b ∷ [])) ++ (n ++ z) = sym (append_snoc pre b (n ++ z)) in
+    rw (e, p.0, l) (ap (λ (w : List ℕ). suc (length (run c w (length (pre ++ (b ∷ []))) (length n)))) s ∙ ap suc r)
 
 pub run_exact : (c : Sort) (pre n z : List ℕ) (m : ℕ) → All c n → length n ≤ m → in_sort c (byte_at z 0) ≡ false → run c (pre ++ (n ++ z)) (length pre) m ≡ n
 unfolding run
@@ -66,4 +68,5 @@ run_exact c pre (b ∷ n) z (suc m) p lt h =
     let e : byte_at (pre ++ (b ∷ (n ++ z))) (length pre) ≡ b = get_or-append_seam pre b (n ++ z) 0 in
     let l : suc (length pre) ≡ length (pre ++ (b ∷ [])) = sym (length-append pre (b ∷ []) ∙ omega arith) in
     let r : run c ((pre ++ (b ∷ [])) ++ (n ++ z)) (length (pre ++ (b ∷ []))) m ≡ n = run_exact c (pre ++ (b ∷ [])) n z m p.1 (le_of_suc-le-suc lt) h in
-    rw (e, p.0, l, ← append_snoc pre b (n ++ z)) (ap (λ (y : List ℕ). b ∷ y) r)
+    let s : pre ++ ((b ∷ n) ++ z) ≡ (pre ++ (b ∷ [])) ++ (n ++ z) = sym (append_snoc pre b (n ++ z)) in
+    rw (e, p.0, l) (ap (λ (w : List ℕ). b ∷ run c w (length (pre ++ (b ∷ []))) m) s ∙ ap (λ (y : List ℕ). b ∷ y) r)

@@ -9,7 +9,6 @@ use lib.Seq.{append_snoc}
 use borrow.Author.Tests.{eqb-true}
 use Rattle.rules.specs.Words.{ℕ, suc, ◌+◌, Bool, true, false, cond, ◌&&◌, ◌||◌, List, [], ◌∷◌, ◌++◌, length, eqb}
 use Rattle.text.specs.declared.Sort.TheVariants.{Digit, Named}
-use Rattle.text.specs.Bytes.{letter}
 use Rattle.text.specs.Forms.{a, k, s, t, signs_of, letter_in, Part, itself, name, number, part_of, x_at, y_at}
 use Rattle.text.specs.Names.{name_at, digits_at}
 use Rattle.text.specs.Grammar.{All, Form, done, sign, named, numbered}

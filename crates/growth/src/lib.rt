@@ -1,4 +1,6 @@
 // The places that a routine's records add in its base, by the table: refusal 6 and the converted length.
+#![tactic(auto)]
+
 ghost use Rattle.std.specs.Prelude.{◌≡◌};
 ghost use Rattle.rules.specs.Instruction.{ops};
 ghost use Rattle.rules.specs.Skip.{skip};

@@ -1,4 +1,6 @@
 // The forms with numbers, and those that begin as they do: `##k`, `##[s]`, `##[s][t]` and `##R`; `R##k` and `a`.
+#![tactic(auto)]
+
 ghost use Rattle.std.specs.Prelude.{◌≡◌};
 ghost use Rattle.text.specs.Bytes.{ascii};
 ghost use Rattle.text.specs.Forms.{follow, fit_of};

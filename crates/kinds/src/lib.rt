@@ -1,4 +1,6 @@
 // The constant table: sixteen rows, one for each kind a routine may use, read by the checks and by the length formula.
+#![tactic(auto)]
+
 ghost use Rattle.std.specs.Prelude.{◌≡◌};
 ghost use Rattle.rules.specs.Table.{rows, relative_rows, row_of};
 ghost use Rattle.rules.specs.Checks.{listed};

@@ -1,4 +1,6 @@
 // The forms with labels, behind their first bracket: `[s]`, `##[s]` and `##[s][t]`.
+#![tactic(auto)]
+
 ghost use Rattle.std.specs.Prelude.{◌≡◌};
 ghost use Rattle.text.specs.Bytes.{ascii};
 ghost use Rattle.text.specs.Forms.{follow};

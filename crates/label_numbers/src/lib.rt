@@ -1,5 +1,7 @@
 // Labels numbered by first appearance. No name is copied: a label is known by the place where it first stood, and the text is compared
 // with itself.
+#![tactic(auto)]
+
 ghost use Rattle.std.specs.Prelude.{◌≡◌, ◌≤◌, length};
 ghost use Rattle.text.specs.Bytes.{span};
 ghost use Rattle.text.specs.Names.{name_at, same, place_of};

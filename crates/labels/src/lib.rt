@@ -1,4 +1,6 @@
 // Labels: where a goto leads, and refusal 14, a goto that leads nowhere.
+#![tactic(auto)]
+
 ghost use Rattle.std.specs.Prelude.{◌≡◌};
 ghost use Rattle.rules.specs.Instruction.{ops};
 ghost use Rattle.rules.specs.Labels.{label_after, lost_goto};
@@ -8,7 +10,7 @@ ghost use Rattle.labels.specs.Aims.{aim_of, place_of, is_nowhere, lost_at};
 use records::{kind_at, x_at, y_at};
 
 // What a lookup found: a label at a place, or none.
-#[derive(Drop)]
+#[derive(Clone, Copy)]
 pub enum Aim {
     At(usize),
     Nowhere,

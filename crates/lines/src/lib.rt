@@ -1,4 +1,6 @@
 // The lines that the listing program prints, as text in a lent buffer: those of a listing, and the line of a refusal.
+#![tactic(auto)]
+
 ghost use Rattle.rules.specs.Record.{rec, records};
 ghost use Rattle.print.specs.Printing.{Printed};
 ghost use Rattle.lines.specs.Text.{line, lines, listing, refused, Line};

@@ -1,4 +1,6 @@
 // The listing of a routine, as text in a lent buffer: the base that it becomes, a line for each record.
+#![tactic(auto)]
+
 ghost use Rattle.std.specs.Prelude.{[], ◌∷◌, ◌≤◌, length};
 ghost use Rattle.rules.specs.Record.{records};
 ghost use Rattle.rules.specs.Refusals.{verdict};

@@ -22,7 +22,7 @@ use Rattle.laws.proofs.Length.{labels_length, labels-room}
 use Rattle.laws.proofs.Fits.{Stages, stages_fit, all_fit-small, fit-ops}
 use Rattle.laws.proofs.Refusals.{admitted}
 use Rattle.records.specs.Writing.{Wrote}
-use Rattle.records.proofs.Writing.{wrote_as, wrote_length}
+use Rattle.records.proofs.Writing.{wrote_length}
 use Rattle.places.specs.declared.Stage.{Stage}
 use Rattle.places.specs.Writing.{Fitted}
 use Rattle.places.proofs.Writing.{fit_sizes, fit_as, fit_all}

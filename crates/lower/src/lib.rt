@@ -1,4 +1,6 @@
 // A routine lowered to its base: the four stages in their order, and the call that converts.
+#![tactic(auto)]
+
 ghost use Rattle.std.specs.Prelude.{◌≡◌, ◌*◌, ◌≤◌, length};
 ghost use Rattle.rules.specs.Record.{count};
 ghost use Rattle.rules.specs.Answers.{check_routine, base_records, base_count, Converted};

@@ -14,14 +14,14 @@ use Rattle.rules.specs.Instruction.{outside, push, pop, compare, loop, act_of, O
 use Rattle.rules.specs.Partners.{end_of, arm_of}
 use Rattle.rules.specs.Stack.{popped, top}
 use Rattle.rules.specs.Step.{Mem, Out, go, halt, with_stack, Acted, did, stops, perform, agree, branch, leaving, does, deed, ask, step_at, step}
-use Rattle.laws.proofs.Records.{record_at, ops-length, ops-at}
+use Rattle.laws.proofs.Records.{ops-length, ops-at}
 use Rattle.records.specs.Reading.{rec_at}
 use Rattle.records.proofs.Reading.{rec_at_lem}
 use Rattle.stack.proofs.Moves.{move_named}
 use Rattle.ways.specs.Places.{places, place_for, place_at}
 use Rattle.deeds.specs.declared.Own.TheVariants.{Push, Pop}
 use Rattle.deeds.specs.declared.Deed.{Deed}
-use Rattle.deeds.specs.declared.Deed.TheVariants.{Leap, Ask, Change, Compare, Return}
+use Rattle.deeds.specs.declared.Deed.TheVariants.{Leap, Ask, Change, Compare}
 use Rattle.deeds.specs.Deeds.{asking, rows, place_in, deed_of}
 use Rattle.steps.specs.Steps.{done}
 

@@ -1,4 +1,6 @@
 // The machine: runs and single steps, of routines and bases.
+#![tactic(auto)]
+
 mod run;
 
 ghost use Rattle.std.specs.Prelude.{◌≡◌, ◌-◌};

@@ -1,5 +1,7 @@
 // Actions looked up by their name through an index of the list: names are parted by a number that their bytes give, and each entry
 // leads to the next one with the same number. The first entry of each number is in one table, and where each entry leads in another.
+#![tactic(auto)]
+
 ghost use Rattle.std.specs.Prelude.{◌≡◌, ◌+◌, ◌≤◌, ◌<◌, length, get_or, take, drop};
 ghost use Rattle.text.specs.Names.{name_at, same, entries, padded};
 ghost use Rattle.name_index.specs.Index.{part_of, along, looked, Fills};

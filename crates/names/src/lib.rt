@@ -1,4 +1,6 @@
 // Names and numbers of a text: whether an entry of the lent list is a proper name, how long it is, and the number that digits are.
+#![tactic(auto)]
+
 ghost use Rattle.std.specs.Prelude.{◌≡◌, ◌+◌, ◌-◌, ◌≤◌, length, take, drop};
 ghost use Rattle.text.specs.Bytes.{byte_at, span};
 ghost use Rattle.text.specs.Names.{name_at, number_at, same, entries, padded, name_of, proper};

@@ -1,17 +1,19 @@
 // What a record is to the items that hold bodies, by its kind.
+#![tactic(auto)]
+
 ghost use Rattle.std.specs.Prelude.{◌≡◌};
 ghost use Rattle.laws.proofs.Partners.{role_of_kind};
 ghost use Rattle.partners.specs.Roles.{sort_of, role_said};
 
 // The two sorts of item that hold bodies.
-#[derive(Drop)]
+#[derive(Clone, Copy)]
 pub enum Sort {
     Conditional,
     Loop,
 }
 
 // What a record is to the items of one sort: it opens one, parts one, ends one, or does none of these.
-#[derive(Drop)]
+#[derive(Clone, Copy)]
 pub enum Role {
     Opens,
     Parts,

@@ -1,4 +1,6 @@
 // Parts of a form along a text: a name, a number, and what stands behind the form.
+#![tactic(auto)]
+
 ghost use Rattle.std.specs.Prelude.{◌≡◌, false, ◌≤◌};
 ghost use Rattle.text.specs.Forms.{take_run, fit, ending};
 ghost use Rattle.parts.specs.LastSign.{last_sign};

@@ -1,5 +1,7 @@
 // The text of a routine in a lent buffer: each writer puts as much of its text as fits at the start of the part lent, and answers how many
 // bytes.
+#![tactic(auto)]
+
 ghost use Rattle.std.specs.Prelude.{◌≡◌, cond, [], ◌*◌, ◌-◌, leb};
 ghost use Rattle.rules.specs.Record.{rec, records};
 ghost use Rattle.text.specs.Bytes.{ascii};

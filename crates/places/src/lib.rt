@@ -1,5 +1,7 @@
 // Second level and its removal (3.1). A stage writes each record's group, the first of it first level, with its jumps already sent on
 // to where they lead once second level is gone.
+#![tactic(auto)]
+
 ghost use Rattle.std.specs.Prelude.{◌≡◌, [], ◌∷◌, ◌≤◌, get_or};
 ghost use Rattle.rules.specs.Record.{rec, count};
 ghost use Rattle.rules.specs.Numbers.{past};
@@ -12,7 +14,7 @@ use records::{kind_at, put_record, x_at, y_at};
 use tables::{has_room, look};
 
 // The four stages.
-#[derive(Drop)]
+#[derive(Clone, Copy)]
 pub enum Stage {
     Labels,
     Calls,

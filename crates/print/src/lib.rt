@@ -1,4 +1,6 @@
 // Text in a lent buffer: each writer puts as much of its text as fits at the start of the part lent, and answers how many bytes.
+#![tactic(auto)]
+
 ghost use Rattle.std.specs.Prelude.{◌≡◌, [], ◌∷◌, min};
 ghost use Rattle.print.specs.Text.{decimal, filled_sign, filled};
 ghost use Rattle.print.specs.Printing.{Printed};

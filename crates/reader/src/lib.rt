@@ -1,4 +1,6 @@
 // A typed routine read to its records.
+#![tactic(auto)]
+
 ghost use Rattle.std.specs.Prelude.{◌≡◌, ◌++◌, ◌+◌, ◌≤◌, ◌<◌, length, drop};
 ghost use Rattle.rules.specs.Record.{rec};
 ghost use Rattle.text.specs.Names.{entries};
@@ -20,14 +22,14 @@ use signs::letter_of;
 use text::{Fit, Sort, TextRefusal, TextVerdict};
 
 // A label's number, 0 for the thousandth, and how many labels there then are.
-#[derive(Drop)]
+#[derive(Clone, Copy)]
 pub struct Numbered {
     pub number: usize,
     pub count: usize,
 }
 
 // The next instruction: kind, x, y, the place behind it, how many labels there are; or why the text is turned away.
-#[derive(Drop)]
+#[derive(Clone, Copy)]
 pub enum Step {
     Made(u8, u16, u16, usize, usize),
     Bad(TextRefusal),

@@ -1,4 +1,6 @@
 // Bytes and records: readers by record number, the one writer of a record, and a buffer made zero.
+#![tactic(auto)]
+
 ghost use Rattle.std.specs.Prelude.{◌≡◌, ◌+◌, ◌*◌, length, replicate};
 ghost use Rattle.rules.specs.Record.{rec};
 ghost use Rattle.records.specs.Reading.{rec_at};

@@ -1,4 +1,6 @@
 // The paper's number and place of each refusal.
+#![tactic(auto)]
+
 ghost use Rattle.std.specs.Prelude.{◌≡◌};
 ghost use Rattle.rules.specs.Refusals.{told};
 

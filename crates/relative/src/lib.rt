@@ -1,4 +1,6 @@
 // Relative jumps (2.2): a base whose jumps are absolute to one whose jumps are relative, and back.
+#![tactic(auto)]
+
 ghost use Rattle.std.specs.Prelude.{◌≡◌, [], ◌∷◌, ◌*◌, ◌≤◌, length};
 ghost use Rattle.rules.specs.Record.{records, count};
 ghost use Rattle.rules.specs.Relative.{relative_at, to_relative, absolute_at, to_absolute, far};

@@ -1,7 +1,8 @@
 // The values that every call answers with, and the paper as definitions, in specs/. What each value means stands there.
+#![tactic(auto)]
 
 // Why a call is turned away, under the paper's names. The number is the place: of a record, or of a reply byte, from 1.
-#[derive(Drop)]
+#[derive(Clone, Copy)]
 pub enum Refusal {
     Ragged,
     Long,
@@ -18,28 +19,28 @@ pub enum Refusal {
 }
 
 // What a check, a conversion or a translation answers: how many records there are, or why it is turned away.
-#[derive(Drop)]
+#[derive(Clone, Copy)]
 pub enum Verdict {
     Accepted(usize),
     Refused(Refusal),
 }
 
 // The counter stack.
-#[derive(Drop)]
+#[derive(Clone, Copy)]
 pub struct Stack {
     pub entries: [u16; 96],
     pub depth: usize,
 }
 
 // A machine state: a position, 0 for ended, and the counter stack.
-#[derive(Drop)]
+#[derive(Clone, Copy)]
 pub struct State {
     pub at: usize,
     pub stack: Stack,
 }
 
 // Why a run stopped.
-#[derive(Drop)]
+#[derive(Clone, Copy)]
 pub enum Status {
     Ended,
     NoReply,
@@ -48,14 +49,14 @@ pub enum Status {
     Spent,
 }
 
-#[derive(Drop)]
+#[derive(Clone, Copy)]
 pub enum Outcome {
     Stopped(Status),
     TurnedAway(Refusal),
 }
 
 // What a run or a step answers.
-#[derive(Drop)]
+#[derive(Clone, Copy)]
 pub struct Ran {
     pub outcome: Outcome,
     pub state: State,
@@ -65,7 +66,7 @@ pub struct Ran {
 }
 
 // The three notations that files are written in.
-#[derive(Drop)]
+#[derive(Clone, Copy)]
 pub enum Notation {
     Routine,
     Base,
@@ -73,7 +74,7 @@ pub enum Notation {
 }
 
 // A row of the table of kinds: the ranges of x and y, and the places added in the base, once and for each record of the routine.
-#[derive(Drop)]
+#[derive(Clone, Copy)]
 pub struct Row {
     pub xmin: u16,
     pub xmax: u16,

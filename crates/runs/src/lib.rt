@@ -1,4 +1,6 @@
 // Sorts of bytes, and runs of them along a text.
+#![tactic(auto)]
+
 ghost use Rattle.std.specs.Prelude.{◌≡◌};
 ghost use Rattle.text.specs.Bytes.{byte_at, blank, digit, letter, in_sort, span};
 

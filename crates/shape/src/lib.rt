@@ -1,4 +1,6 @@
 // Shape: well-built routines, and the checks of a routine.
+#![tactic(auto)]
+
 mod check;
 mod nesting;
 

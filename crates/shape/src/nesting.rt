@@ -11,7 +11,7 @@ ghost use Rattle.shape.specs.Reading.{start_of, behind_of, BodyRead, ItemRead};
 use partners::{Role, Sort, role_of};
 
 // What a record is to a body: a header, an item alone, or a separator or an end, which starts no item.
-#[derive(Drop)]
+#[derive(Clone, Copy)]
 pub enum Start {
     Header(Sort),
     Alone,
@@ -20,7 +20,7 @@ pub enum Start {
 
 // What a reader answers: how many records of the file are read then; or the separator or end that does not fit; or, where the file
 // ends inside an item, the lowest opener.
-#[derive(Drop)]
+#[derive(Clone, Copy)]
 pub enum Read {
     To(usize),
     Misfit(usize),
@@ -28,7 +28,7 @@ pub enum Read {
 }
 
 // What follows a body inside an item: the item is read, or the separator with this number has a second body behind it.
-#[derive(Drop)]
+#[derive(Clone, Copy)]
 pub enum Behind {
     Item(Read),
     Second(usize),

@@ -1,5 +1,7 @@
 // What the programs of cases print, as text in a lent buffer: each writer puts as much of its text as fits at the start of the part lent,
 // and answers how many bytes.
+#![tactic(auto)]
+
 ghost use Rattle.std.specs.Prelude.{◌≤◌};
 ghost use Rattle.rules.specs.Record.{rec};
 ghost use Rattle.print.specs.Printing.{Printed};

@@ -1,4 +1,6 @@
 // The signs of the forms: tables.
+#![tactic(auto)]
+
 ghost use Rattle.std.specs.Prelude.{◌≡◌, ◌+◌, ◌≤◌};
 ghost use Rattle.text.specs.Bytes.{byte_at};
 ghost use Rattle.text.specs.Forms.{signs_of, letter_of};

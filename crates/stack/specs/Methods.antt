@@ -1,5 +1,5 @@
 -- What the counter stack's methods answer, on every stack.
-use Rattle.rules.specs.Words.{ℕ, Bool, true, false, cond, Option, none, some}
+use Rattle.rules.specs.Words.{ℕ, Bool, true, false, cond}
 use Rattle.rules.specs.declared.Stack.{Stack}
 use Rattle.rules.specs.Stack.{full, pushed, popped, top, nonempty, equals}
 use Rattle.stack.specs.declared.StackReply.{StackReply}

@@ -1,4 +1,6 @@
 // The counter stack: pushing, popping and comparing hand back the whole counter stack.
+#![tactic(auto)]
+
 ghost use Rattle.std.specs.Prelude.{◌≡◌};
 ghost use Rattle.rules.specs.Numbers.{names};
 ghost use Rattle.rules.specs.Stack.{fresh, top};
@@ -8,12 +10,12 @@ ghost use Rattle.stack.specs.Methods.{pushing, popping, comparing};
 use rules::Stack;
 
 // The counter stack at work. A method stands in the crate of its type, so the machine has this one.
-#[derive(Drop)]
+#[derive(Clone, Copy)]
 pub struct Counters {
     pub stack: Stack,
 }
 
-#[derive(Drop)]
+#[derive(Clone, Copy)]
 pub enum StackReply {
     Yes,
     No,
@@ -21,7 +23,7 @@ pub enum StackReply {
 }
 
 // The reply, and the whole stack beside it: an enum cannot hold the array.
-#[derive(Drop)]
+#[derive(Clone, Copy)]
 pub struct Handed {
     pub reply: StackReply,
     pub stack: Stack,

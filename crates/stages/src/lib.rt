@@ -1,4 +1,6 @@
 // The four stages, by their names.
+#![tactic(auto)]
+
 mod unlabel;
 
 ghost use Rattle.places.specs.Groups.{staged};

@@ -1,4 +1,6 @@
 // Which machine states and replies are right: refusals 9 and 10, after those of the file, and what a refused call answers.
+#![tactic(auto)]
+
 ghost use Rattle.std.specs.Prelude.{◌≡◌, true, ◌≤◌};
 ghost use Rattle.rules.specs.Answers.{bad_reply, sound};
 ghost use Rattle.states.specs.States.{entry_fine, stack_sound, with_replies, with_state, away_with};

@@ -1,4 +1,6 @@
 // One step: what a deed does to the counter stack, the replies and the log.
+#![tactic(auto)]
+
 ghost use Rattle.std.specs.Prelude.{◌≡◌, List, ℕ};
 ghost use Rattle.rules.specs.declared.Stack.{Stack};
 ghost use Rattle.rules.specs.Stack.{stack};
@@ -10,7 +12,7 @@ use rules::{Stack, Status};
 use stack::{Counters, Handed, StackReply, names};
 
 // To a position, or a stop before the step.
-#[derive(Drop)]
+#[derive(Clone, Copy)]
 pub enum Out {
     Go(usize),
     Halt(Status),

@@ -1,4 +1,6 @@
 // Partners of all records in one pass each. An entry is written once, when its record is passed. Every number is 0 where there is none.
+#![tactic(auto)]
+
 ghost use Rattle.std.specs.Prelude.{◌≡◌, ◌≤◌, ◌<◌, length, get_or};
 ghost use Rattle.rules.specs.Record.{count};
 ghost use Rattle.rules.specs.Instruction.{loop, ops};

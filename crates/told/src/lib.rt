@@ -1,4 +1,6 @@
 // Answers as the paper's numbers, in structs that C can take: a refusal's number and place, a status, a state.
+#![tactic(auto)]
+
 ghost use Rattle.std.specs.Prelude.{◌≡◌};
 ghost use Rattle.rules.specs.Run.{status_number};
 ghost use Rattle.told.specs.Numbers.{in32, refused_with, verdict_told, text_refusal_told, text_told, state_told, state_given, ran_told};
@@ -8,7 +10,7 @@ use rules::{Outcome, Ran, Stack, State, Status, Verdict};
 use text::{TextRefusal, TextVerdict};
 
 #[repr(C)]
-#[derive(Drop)]
+#[derive(Clone, Copy)]
 pub struct QhVerdict {
     pub refusal: u32,
     pub place: u32,
@@ -16,7 +18,7 @@ pub struct QhVerdict {
 }
 
 #[repr(C)]
-#[derive(Drop)]
+#[derive(Clone, Copy)]
 pub struct QhState {
     pub at: u32,
     pub depth: u32,
@@ -24,7 +26,7 @@ pub struct QhState {
 }
 
 #[repr(C)]
-#[derive(Drop)]
+#[derive(Clone, Copy)]
 pub struct QhRan {
     pub refusal: u32,
     pub place: u32,

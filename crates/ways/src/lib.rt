@@ -1,4 +1,6 @@
 // The one number that a step needs besides its record's own fields: where a goto or a bracket leads. It is looked up before the first step.
+#![tactic(auto)]
+
 ghost use Rattle.std.specs.Prelude.{◌≡◌, false, ◌⊎◌, ℕ, suc, ◌≤◌, ◌<◌};
 ghost use Rattle.rules.specs.Numbers.{past};
 ghost use Rattle.ways.specs.Places.{place_at};

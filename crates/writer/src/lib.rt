@@ -1,4 +1,6 @@
 // A routine written as text.
+#![tactic(auto)]
+
 ghost use Rattle.std.specs.Prelude.{◌≡◌, ◌≤◌, length};
 ghost use Rattle.rules.specs.Record.{rec, records};
 ghost use Rattle.text.specs.Names.{entries};

@@ -5,7 +5,6 @@ use native.Mathlib.Omega.{arith}
 use Rattle.rules.specs.Words.{ℕ, suc, true, none, List, length}
 use Rattle.rules.specs.declared.Notation.TheVariants.{Routine}
 use Rattle.rules.specs.Record.{Rec, rec, bytes_of, count}
-use Rattle.rules.specs.Numbers.{at}
 use Rattle.rules.specs.Table.{row_of}
 use Rattle.rules.specs.Refusals.{first}
 use Rattle.rules.specs.Checks.{most, listed, in_row, field_fault, record_checks}

@@ -7,7 +7,7 @@ use borrow.Author.Tests.{eqb-true}
 use Rattle.rules.specs.Words.{ℕ, suc, Bool, true, false, not, ◌||◌, List, [], ◌∷◌, ◌++◌, map, eqb}
 use Rattle.rules.specs.Record.{Rec}
 use Rattle.text.specs.declared.Sort.TheVariants.{Named}
-use Rattle.text.specs.Forms.{a, k, s, t, signs_of, letter_in, letter_of, itself, number, part_of}
+use Rattle.text.specs.Forms.{a, k, s, t, signs_of, letter_in, letter_of, itself, part_of}
 use Rattle.text.specs.Names.{entry, name_of, proper}
 use Rattle.text.specs.Writing.{decimal, label_name, written_sign, written_signs, form_of}
 use Rattle.text.specs.Grammar.{Form, done, sign, named, numbered}
