@@ -1,5 +1,6 @@
 -- Fault 4 of a record whose kind has this row, or none: x or y outside its range.
-use Rattle.rules.specs.Words.{Bool, not, ◌&&◌, ◌||◌, Option}
+use Rattle.std.specs.Prelude.{◌&&◌, ◌||◌}
+use Rattle.rules.specs.Words.{Bool, not, Option}
 use Rattle.rules.specs.declared.Row.{Row}
 use Rattle.rules.specs.declared.Notation.{Notation}
 use Rattle.rules.specs.Record.{Rec}

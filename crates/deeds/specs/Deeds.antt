@@ -1,5 +1,6 @@
 -- What a record does, by its kind, its fields and the place that it leads to.
-use Rattle.rules.specs.Words.{ℕ, suc, ◌-◌, cond, List, [], ◌∷◌, get_or, eqb}
+use Rattle.std.specs.Prelude.{◌-◌, ◌∷◌}
+use Rattle.rules.specs.Words.{ℕ, suc, cond, List, [], get_or, eqb}
 use Rattle.records.specs.Reading.{rec_at}
 use Rattle.deeds.specs.declared.Own.TheVariants.{Push, Pop}
 use Rattle.deeds.specs.declared.Deed.{Deed}

@@ -3,7 +3,8 @@ use mathlib.Core.Path.{◌≡◌, refl}
 use Prim.Native.Nat.{◌≤◌}
 use native.Mathlib.Omega.{arith}
 use borrow.Author.Tests.{le-ltb, eq-eqb}
-use Rattle.rules.specs.Words.{ℕ, suc, ◌%◌, true, false, none, List, [], ◌∷◌, ◌++◌, length}
+use Rattle.std.specs.Prelude.{◌%◌, ◌∷◌, ◌++◌}
+use Rattle.rules.specs.Words.{ℕ, suc, true, false, none, List, [], length}
 use Rattle.rules.specs.declared.Notation.{Notation}
 use Rattle.rules.specs.declared.Verdict.TheVariants.{Accepted}
 use Rattle.rules.specs.Record.{Rec, record_bytes, bytes_of}

@@ -7,7 +7,8 @@ use native.Mathlib.Omega.{arith}
 use lib.ListN.{length-map}
 use lib.Dec.{leb-zero}
 use borrow.Author.Tests.{le-leb}
-use Rattle.rules.specs.Words.{ℕ, zero, suc, true, false, some, List, [], ◌∷◌, map, get_elem?}
+use Rattle.std.specs.Prelude.{◌∷◌}
+use Rattle.rules.specs.Words.{ℕ, zero, suc, true, false, some, List, [], map, get_elem?}
 use Rattle.rules.specs.declared.Notation.{Notation}
 use Rattle.rules.specs.declared.Notation.TheVariants.{Routine, Base}
 use Rattle.rules.specs.declared.Verdict.TheVariants.{Accepted}

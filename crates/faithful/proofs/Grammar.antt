@@ -7,7 +7,8 @@ use native.Mathlib.Omega.{arith}
 use mathlib.Core.List.{append_assoc, append-nil}
 use lib.ListN.{length-append}
 use lib.Seq.{append_snoc}
-use Rattle.rules.specs.Words.{ℕ, suc, ◌+◌, Bool, true, false, List, [], ◌∷◌, ◌++◌, length}
+use Rattle.std.specs.Prelude.{◌+◌, ◌∷◌, ◌++◌}
+use Rattle.rules.specs.Words.{ℕ, suc, Bool, true, false, List, [], length}
 use Rattle.rules.specs.Instruction.{Sort, conditional, loop, Op, act, test, jump, label, goto, goto2, header, separator, end, call, return}
 use Rattle.rules.specs.Nesting.{Bracket, bracket, Item, item, parted, closed, read, lowest, go_on, scan, nesting, Body, nothing, single, looping, one_armed, two_armed}
 use Rattle.faithful.specs.Place.{Leaves, none_open, in_item, in_second, IsOpen, Misfit, stray_separator, second_separator, separator_in_loop, stray_end, loop_end_in_conditional, end_in_loop, Place5, misfit, unclosed}

@@ -3,7 +3,8 @@
 use mathlib.Core.Path.{◌≡◌, refl, ap, ◌∙◌, subst, fun_ext}
 use Prim.Native.Nat.{◌≤◌}
 use native.Mathlib.Omega.{arith}
-use Rattle.rules.specs.Words.{ℕ, zero, suc, ◌+◌, Bool, true, false, cond, ◌&&◌, Option, none, some, List, [], ◌∷◌, length, drop, get_elem?}
+use Rattle.std.specs.Prelude.{◌+◌, ◌&&◌, ◌∷◌}
+use Rattle.rules.specs.Words.{ℕ, zero, suc, Bool, true, false, cond, Option, none, some, List, [], length, drop, get_elem?}
 use Rattle.rules.specs.Instruction.{Sort, conditional, loop, Op, act, test, jump, label, goto, goto2, header, separator, end, call, return}
 use Rattle.rules.specs.Numbers.{at, each, move_to}
 use Rattle.rules.specs.Nesting.{bracket}

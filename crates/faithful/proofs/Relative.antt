@@ -5,7 +5,8 @@ use Prim.Native.Nat.{◌≤◌}
 use native.Mathlib.Omega.{arith}
 use lib.Dec.{leb-zero}
 use borrow.Author.Tests.{le-leb, lt-leb, lt-ltb, le-ltb}
-use Rattle.rules.specs.Words.{ℕ, zero, suc, ◌+◌, ◌-◌, true, false, List, [], ◌∷◌, length}
+use Rattle.std.specs.Prelude.{◌+◌, ◌-◌, ◌∷◌}
+use Rattle.rules.specs.Words.{ℕ, zero, suc, true, false, List, [], length}
 use Rattle.rules.specs.declared.Notation.TheVariants.{Base, Relative}
 use Rattle.rules.specs.declared.Verdict.TheVariants.{Accepted}
 use Rattle.rules.specs.Record.{Rec, rec, bytes_of, count, records}

@@ -1,6 +1,6 @@
 -- Items of the grammar that stand in a list of records, and the partners that they have.
-use Rattle.std.specs.Prelude.{◌≡◌}
-use Rattle.rules.specs.Words.{ℕ, zero, suc, ◌+◌, Bool, List, ◌∷◌, ◌++◌, length, drop}
+use Rattle.std.specs.Prelude.{◌≡◌, ◌+◌, ◌∷◌, ◌++◌}
+use Rattle.rules.specs.Words.{ℕ, zero, suc, Bool, List, length, drop}
 use Rattle.rules.specs.Instruction.{Act, Sort, conditional, loop, Op, header, separator, end}
 use Rattle.rules.specs.Nesting.{alone, bracket, Body}
 use Rattle.rules.specs.Partners.{end_of, arm_of, header_of}

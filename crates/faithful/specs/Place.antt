@@ -1,7 +1,7 @@
 -- The place of refusal 5 in the paper's words: reading from the left, the first separator or end that does not fit the innermost open
 -- item (a second separator doesn't fit); if none, the lowest opener never closed.
-use Rattle.std.specs.Prelude.{◌≡◌, ◌⊎◌, ◌≤◌}
-use Rattle.rules.specs.Words.{ℕ, suc, Bool, true, false, List, [], ◌∷◌, ◌++◌, length}
+use Rattle.std.specs.Prelude.{◌≡◌, ◌⊎◌, ◌≤◌, ◌∷◌, ◌++◌}
+use Rattle.rules.specs.Words.{ℕ, suc, Bool, true, false, List, [], length}
 use Rattle.rules.specs.Instruction.{Act, Sort, conditional, loop, Op, header, separator, end}
 use Rattle.rules.specs.Nesting.{Item, item, Body}
 

@@ -1,6 +1,6 @@
 -- What is proved of the definitions of `rules`, and where. Start here.
-use Rattle.std.specs.Prelude.{◌≡◌, ◌↔◌, ◌≤◌, ◌<◌}
-use Rattle.rules.specs.Words.{ℕ, zero, suc, ◌+◌, ◌*◌, Option, none, some, List, map, length, get_or}
+use Rattle.std.specs.Prelude.{◌≡◌, ◌↔◌, ◌≤◌, ◌<◌, ◌+◌, ◌*◌}
+use Rattle.rules.specs.Words.{ℕ, zero, suc, Option, none, some, List, map, length, get_or}
 use Rattle.rules.specs.declared.Notation.TheVariants.{Base, Relative}
 use Rattle.rules.specs.declared.Status.{Status}
 use Rattle.rules.specs.declared.Verdict.TheVariants.{Accepted}

@@ -9,7 +9,8 @@ use lib.Dec.{T}
 use lib.ListN.{length-append}
 use lib.Seq.{get_or-append_seam, get_or-append-add, append_snoc}
 use borrow.Author.Tests.{eq-eqb, ne_eqb, le-leb, eqb-true}
-use Rattle.rules.specs.Words.{ℕ, suc, ◌+◌, Bool, true, false, not, ◌&&◌, ◌||◌, List, [], ◌∷◌, ◌++◌, length, eqb}
+use Rattle.std.specs.Prelude.{◌+◌, ◌&&◌, ◌||◌, ◌∷◌, ◌++◌}
+use Rattle.rules.specs.Words.{ℕ, suc, Bool, true, false, not, List, [], length, eqb}
 use Rattle.text.specs.declared.Sort.{Sort}
 use Rattle.text.specs.declared.Sort.TheVariants.{Blank, Digit, Named}
 use Rattle.text.specs.declared.Took.TheVariants.{On}

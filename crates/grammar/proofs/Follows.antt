@@ -6,7 +6,8 @@ use Prim.Native.Char.{code}
 use native.Mathlib.Omega.{arith}
 use lib.Dec.{T}
 use borrow.Author.Tests.{eqb-false}
-use Rattle.rules.specs.Words.{ℕ, zero, suc, ◌+◌, Bool, true, false, not, ◌&&◌, ◌||◌, List, [], ◌∷◌, length, get_or, eqb}
+use Rattle.std.specs.Prelude.{◌+◌, ◌&&◌, ◌||◌, ◌∷◌}
+use Rattle.rules.specs.Words.{ℕ, zero, suc, Bool, true, false, not, List, [], length, get_or, eqb}
 use Rattle.text.specs.declared.Sort.TheVariants.{Blank}
 use Rattle.text.specs.declared.Took.{Took}
 use Rattle.text.specs.declared.Took.TheVariants.{On, Off}

@@ -6,7 +6,8 @@ use native.Mathlib.Nat.{not-suc-le-zero, le_of_suc-le-suc}
 use native.Mathlib.Omega.{arith}
 use lib.Dec.{T}
 use borrow.Author.Tests.{eqb-true, ne_eqb, leb-false, ltb-true, ltb-false}
-use Rattle.rules.specs.Words.{ℕ, zero, suc, ◌+◌, false, List, [], ◌∷◌, length, eqb, leb, ltb}
+use Rattle.std.specs.Prelude.{◌+◌, ◌∷◌}
+use Rattle.rules.specs.Words.{ℕ, zero, suc, false, List, [], length, eqb, leb, ltb}
 use Rattle.text.specs.declared.Sort.{Sort}
 use Rattle.text.specs.declared.Sort.TheVariants.{Blank, Digit, Named}
 use Rattle.text.specs.declared.Took.{Took}

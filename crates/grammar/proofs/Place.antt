@@ -8,7 +8,8 @@ use mathlib.Core.List.{append_assoc, append-nil}
 use lib.ListN.{length-append, length-drop, take-append-drop, get_or-append}
 use lib.Seq.{take-append_seam, drop-append_seam, drop-drop, length-take-le, get_or-take}
 use borrow.Author.Tests.{eqb-false}
-use Rattle.rules.specs.Words.{ℕ, suc, ◌+◌, ◌-◌, true, List, [], ◌∷◌, ◌++◌, length, take, drop, eqb}
+use Rattle.std.specs.Prelude.{◌+◌, ◌-◌, ◌∷◌, ◌++◌}
+use Rattle.rules.specs.Words.{ℕ, suc, true, List, [], length, take, drop, eqb}
 use Rattle.text.specs.declared.Sort.TheVariants.{Blank}
 use Rattle.text.specs.declared.Fit.{Fit}
 use Rattle.text.specs.declared.TextRefusal.TheVariants.{Text}

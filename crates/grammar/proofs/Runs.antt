@@ -10,7 +10,8 @@ use native.Mathlib.Nat.{not-suc-le-zero, le_of_suc-le-suc}
 use native.Mathlib.Omega.{arith}
 use lib.ListN.{length-append}
 use lib.Seq.{get_or-append_seam, get_or-append-add, append_snoc}
-use Rattle.rules.specs.Words.{ℕ, zero, suc, ◌+◌, false, List, [], ◌∷◌, ◌++◌, length}
+use Rattle.std.specs.Prelude.{◌+◌, ◌∷◌, ◌++◌}
+use Rattle.rules.specs.Words.{ℕ, zero, suc, false, List, [], length}
 use Rattle.text.specs.declared.Sort.{Sort}
 use Rattle.text.specs.Bytes.{byte_at, in_sort, run, span}
 use Rattle.text.specs.Grammar.{All}

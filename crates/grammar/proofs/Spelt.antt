@@ -7,7 +7,8 @@ use lib.Dec.{T}
 use lib.ListN.{length-append}
 use lib.Seq.{append_snoc}
 use borrow.Author.Tests.{eqb-true}
-use Rattle.rules.specs.Words.{ℕ, suc, ◌+◌, Bool, true, false, cond, ◌&&◌, ◌||◌, List, [], ◌∷◌, ◌++◌, length, eqb}
+use Rattle.std.specs.Prelude.{◌+◌, ◌&&◌, ◌||◌, ◌∷◌, ◌++◌}
+use Rattle.rules.specs.Words.{ℕ, suc, Bool, true, false, cond, List, [], length, eqb}
 use Rattle.text.specs.declared.Sort.TheVariants.{Digit, Named}
 use Rattle.text.specs.Forms.{a, k, s, t, signs_of, letter_in, Part, itself, name, number, part_of, x_at, y_at}
 use Rattle.text.specs.Names.{name_at, digits_at}

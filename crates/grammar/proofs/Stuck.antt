@@ -4,7 +4,8 @@ use Prim.Native.Nat.{◌≤◌, ◌<◌}
 use native.Mathlib.Omega.{arith}
 use lib.ListN.{length-append, length-drop}
 use borrow.Author.Tests.{ltb-false}
-use Rattle.rules.specs.Words.{ℕ, zero, suc, ◌+◌, ◌-◌, true, false, cond, List, [], ◌∷◌, ◌++◌, length, drop, eqb, ltb}
+use Rattle.std.specs.Prelude.{◌+◌, ◌-◌, ◌∷◌, ◌++◌}
+use Rattle.rules.specs.Words.{ℕ, zero, suc, true, false, cond, List, [], length, drop, eqb, ltb}
 use Rattle.rules.specs.Record.{Rec}
 use Rattle.text.specs.declared.Sort.TheVariants.{Blank}
 use Rattle.text.specs.declared.Fit.{Fit}

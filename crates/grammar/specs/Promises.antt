@@ -1,6 +1,6 @@
 -- What is proved of the definitions of `text`, against the grammar, which says nothing of how a text is read.
-use Rattle.std.specs.Prelude.{◌≡◌, ◌↔◌, ◌≤◌}
-use Rattle.rules.specs.Words.{ℕ, ◌+◌, ◌-◌, cond, List, [], ◌∷◌, ◌++◌, length, take, eqb}
+use Rattle.std.specs.Prelude.{◌≡◌, ◌↔◌, ◌≤◌, ◌+◌, ◌-◌, ◌∷◌, ◌++◌}
+use Rattle.rules.specs.Words.{ℕ, cond, List, [], length, take, eqb}
 use Rattle.rules.specs.Record.{Rec}
 use Rattle.text.specs.declared.TextRefusal.TheVariants.{Text}
 use Rattle.text.specs.Forms.{a}

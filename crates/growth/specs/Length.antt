@@ -1,5 +1,6 @@
 -- The kind of a plain test, and the converted length of a file that is not too long.
-use Rattle.rules.specs.Words.{ℕ, Bool, cond, ◌||◌, List, eqb, leb}
+use Rattle.std.specs.Prelude.{◌||◌}
+use Rattle.rules.specs.Words.{ℕ, Bool, cond, List, eqb, leb}
 use Rattle.rules.specs.Record.{count}
 use Rattle.rules.specs.Instruction.{ops}
 use Rattle.rules.specs.Skip.{converted_length}

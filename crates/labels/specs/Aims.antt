@@ -1,5 +1,6 @@
 -- What a lookup found, as the code has it, and whether a record of a file is a goto that leads nowhere.
-use Rattle.rules.specs.Words.{ℕ, Bool, true, false, ◌&&◌, ◌||◌, Option, none, some, List, eqb}
+use Rattle.std.specs.Prelude.{◌&&◌, ◌||◌}
+use Rattle.rules.specs.Words.{ℕ, Bool, true, false, Option, none, some, List, eqb}
 use Rattle.rules.specs.Record.{Rec}
 use Rattle.rules.specs.Instruction.{Op, ops}
 use Rattle.rules.specs.Labels.{target, target2, missing}

@@ -1,6 +1,6 @@
 -- What the listing program prints, byte for byte: the lines of a listing, and the line of a refusal.
-use Rattle.std.specs.Prelude.{◌≡◌}
-use Rattle.rules.specs.Words.{ℕ, suc, cond, List, [], ◌∷◌, ◌++◌, length, drop, leb}
+use Rattle.std.specs.Prelude.{◌≡◌, ◌∷◌, ◌++◌}
+use Rattle.rules.specs.Words.{ℕ, suc, cond, List, [], length, drop, leb}
 use Rattle.rules.specs.declared.Refusal.{Refusal}
 use Rattle.rules.specs.Refusals.{told}
 use Rattle.rules.specs.Record.{Rec}

@@ -1,6 +1,6 @@
 -- What the call answers, and what the lent text then holds, on every input.
-use Rattle.std.specs.Prelude.{◌≡◌}
-use Rattle.rules.specs.Words.{ℕ, Option, List, [], ◌∷◌, ◌++◌, length, drop, ltb}
+use Rattle.std.specs.Prelude.{◌≡◌, ◌∷◌, ◌++◌}
+use Rattle.rules.specs.Words.{ℕ, Option, List, [], length, drop, ltb}
 use Rattle.rules.specs.declared.Refusal.{Refusal}
 use Rattle.rules.specs.declared.Refusal.TheVariants.{Room}
 use Rattle.rules.specs.declared.Verdict.{Verdict}

@@ -1,6 +1,6 @@
 -- The index of a list of names: two tables, and what is looked up in them.
-use Rattle.std.specs.Prelude.{◌≡◌}
-use Rattle.rules.specs.Words.{ℕ, zero, suc, ◌+◌, ◌*◌, ◌/◌, ◌%◌, Bool, cond, ◌&&◌, ◌||◌, List, [], ◌∷◌, length, get_or, set, eqb, leb, ltb}
+use Rattle.std.specs.Prelude.{◌≡◌, ◌+◌, ◌*◌, ◌/◌, ◌%◌, ◌&&◌, ◌||◌, ◌∷◌}
+use Rattle.rules.specs.Words.{ℕ, zero, suc, Bool, cond, List, [], length, get_or, set, eqb, leb, ltb}
 use Rattle.text.specs.Names.{same, place_of, entry, entries}
 
 -- The number, below 512, that parts the names: the same for the same bytes.

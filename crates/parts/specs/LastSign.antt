@@ -1,5 +1,6 @@
 -- What is left of form i is the sign p.
-use Rattle.rules.specs.Words.{ℕ, ◌+◌, false, cond, ◌&&◌, List, length, eqb, ltb}
+use Rattle.std.specs.Prelude.{◌+◌, ◌&&◌}
+use Rattle.rules.specs.Words.{ℕ, false, cond, List, length, eqb, ltb}
 use Rattle.text.specs.declared.Fit.{Fit}
 use Rattle.text.specs.Bytes.{byte_at}
 use Rattle.text.specs.Forms.{fit, ending}

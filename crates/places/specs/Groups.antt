@@ -1,5 +1,6 @@
 -- What a record becomes in each stage, by its kind, with its jumps sent on; and what a whole stage writes.
-use Rattle.rules.specs.Words.{ℕ, zero, suc, cond, List, [], ◌∷◌, ◌++◌, get_or, eqb, leb}
+use Rattle.std.specs.Prelude.{◌∷◌, ◌++◌}
+use Rattle.rules.specs.Words.{ℕ, zero, suc, cond, List, [], get_or, eqb, leb}
 use Rattle.rules.specs.Record.{Rec, rec, count}
 use Rattle.rules.specs.Numbers.{or_zero, past}
 use Rattle.rules.specs.Instruction.{conditional, loop, ops}

@@ -1,6 +1,6 @@
 -- The four stages, alike: what a record becomes, and where a jump leads once second level is removed.
-use Rattle.std.specs.Prelude.{◌≡◌}
-use Rattle.rules.specs.Words.{ℕ, ◌*◌, cond, List, length, get_or, eqb, leb}
+use Rattle.std.specs.Prelude.{◌≡◌, ◌*◌}
+use Rattle.rules.specs.Words.{ℕ, cond, List, length, get_or, eqb, leb}
 use Rattle.rules.specs.Record.{Rec, rec}
 use Rattle.rules.specs.Numbers.{each}
 use Rattle.rules.specs.Instruction.{Op, ops}

@@ -1,6 +1,6 @@
 -- The page that the records of a text are read to, since a refused text writes nothing to the output.
-use Rattle.std.specs.Prelude.{◌≡◌, ◌≤◌}
-use Rattle.rules.specs.Words.{ℕ, ◌*◌, List, [], ◌∷◌, ◌++◌, length, drop}
+use Rattle.std.specs.Prelude.{◌≡◌, ◌≤◌, ◌*◌, ◌∷◌, ◌++◌}
+use Rattle.rules.specs.Words.{ℕ, List, [], length, drop}
 use Rattle.rules.specs.Record.{Rec, bytes_of}
 use Rattle.text.specs.declared.TextVerdict.{TextVerdict}
 use Rattle.text.specs.declared.TextVerdict.TheVariants.{Done, Refused}

@@ -1,6 +1,6 @@
 -- What the code's answer for one instruction means.
-use Rattle.std.specs.Prelude.{◌≡◌, ◌≤◌, ◌<◌}
-use Rattle.rules.specs.Words.{ℕ, ◌+◌, true, cond, List, length, eqb}
+use Rattle.std.specs.Prelude.{◌≡◌, ◌≤◌, ◌<◌, ◌+◌}
+use Rattle.rules.specs.Words.{ℕ, true, cond, List, length, eqb}
 use Rattle.rules.specs.Record.{rec}
 use Rattle.text.specs.declared.Fit.{Fit}
 use Rattle.text.specs.declared.TextRefusal.TheVariants.{Text}

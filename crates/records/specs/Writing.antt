@@ -1,6 +1,6 @@
 -- What a writer leaves in the part lent to it.
-use Rattle.std.specs.Prelude.{◌≡◌}
-use Rattle.rules.specs.Words.{ℕ, cond, List, ◌++◌, length, drop, leb}
+use Rattle.std.specs.Prelude.{◌≡◌, ◌++◌}
+use Rattle.rules.specs.Words.{ℕ, cond, List, length, drop, leb}
 use Rattle.rules.specs.Record.{Rec, record_bytes, bytes_of}
 
 -- One record where it has its eight bytes, and nothing where it has not: of the part o it leaves w, and answers k.

@@ -1,7 +1,8 @@
 -- Rows of our own beside the paper's table: what the paper says in words and its table does not try, what to write instead of a routine
 -- that is refused 6, and the incident.
 use mathlib.Core.Path.{◌≡◌}
-use Rattle.rules.specs.Words.{ℕ, true, false, List, [], ◌∷◌, map, replicate}
+use Rattle.std.specs.Prelude.{◌∷◌}
+use Rattle.rules.specs.Words.{ℕ, true, false, List, [], map, replicate}
 use Rattle.rules.specs.declared.Refusal.TheVariants.{Ragged, Long, Kind, Field, Nesting, Skip, Growth, Room, Reply, Far, Label}
 use Rattle.rules.specs.declared.Refusal.TheVariants as refusal
 use Rattle.rules.specs.declared.Verdict.TheVariants.{Accepted, Refused}

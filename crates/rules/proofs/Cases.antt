@@ -1,7 +1,8 @@
 -- Checked by hand: the paper's ● cases and its listing example, row by row in the paper's order. Rows of our own stand in Beside.
 -- A row speaks of a file's bytes where it asks what a call answers, and of instructions where it asks what they become.
 use mathlib.Core.Path.{◌≡◌}
-use Rattle.rules.specs.Words.{ℕ, true, false, List, [], ◌∷◌, length, replicate}
+use Rattle.std.specs.Prelude.{◌∷◌}
+use Rattle.rules.specs.Words.{ℕ, true, false, List, [], length, replicate}
 use Rattle.rules.specs.declared.Refusal.TheVariants.{Nesting, Label, Skip}
 use Rattle.rules.specs.declared.Verdict.TheVariants.{Accepted, Refused}
 use Rattle.rules.specs.declared.Status.{Status}

@@ -1,6 +1,6 @@
 -- What every public call answers, and what each lent buffer then holds, on every input.
-use Rattle.std.specs.Prelude.{◌≡◌}
-use Rattle.rules.specs.Words.{ℕ, zero, suc, ◌*◌, Bool, true, not, cond, ◌&&◌, ◌||◌, Option, none, some, List, [], ◌∷◌, ◌++◌, map, length, drop, replicate, eqb, leb, ltb}
+use Rattle.std.specs.Prelude.{◌≡◌, ◌*◌, ◌&&◌, ◌||◌, ◌∷◌, ◌++◌}
+use Rattle.rules.specs.Words.{ℕ, zero, suc, Bool, true, not, cond, Option, none, some, List, [], map, length, drop, replicate, eqb, leb, ltb}
 use Rattle.rules.specs.declared.Refusal.{Refusal}
 use Rattle.rules.specs.declared.Refusal.TheVariants.{Nesting, Label, Skip, Growth, Room, Reply, Far}
 use Rattle.rules.specs.declared.Refusal.TheVariants as refusal

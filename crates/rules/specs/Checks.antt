@@ -1,5 +1,6 @@
 -- Refusals 1 to 4, for a routine, a base and a relative base alike.
-use Rattle.rules.specs.Words.{ℕ, zero, suc, ◌%◌, Bool, true, false, not, ◌&&◌, ◌||◌, Option, none, some, List, [], ◌∷◌, length, drop, eqb, leb, ltb}
+use Rattle.std.specs.Prelude.{◌%◌, ◌&&◌, ◌||◌, ◌∷◌}
+use Rattle.rules.specs.Words.{ℕ, zero, suc, Bool, true, false, not, Option, none, some, List, [], length, drop, eqb, leb, ltb}
 use Rattle.rules.specs.declared.Row.{Row}
 use Rattle.rules.specs.declared.Refusal.{Refusal}
 use Rattle.rules.specs.declared.Refusal.TheVariants.{Ragged, Long, Kind, Field}

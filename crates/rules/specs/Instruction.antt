@@ -1,5 +1,6 @@
 -- The instructions, and the sixteen kinds that stand for them: the column "Written" of the table.
-use Rattle.rules.specs.Words.{ℕ, Bool, true, false, cond, List, [], ◌∷◌, map, get_or, eqb}
+use Rattle.std.specs.Prelude.{◌∷◌}
+use Rattle.rules.specs.Words.{ℕ, Bool, true, false, cond, List, [], map, get_or, eqb}
 use Rattle.rules.specs.Record.{Rec, rec, bytes_of, records}
 
 -- An action: an outside one by its number, or one of the counter stack's own.

@@ -1,5 +1,6 @@
 -- Records are numbered from 1. The number 0 names no record: it is the answer "there is none", and as a position it means ended.
-use Rattle.rules.specs.Words.{ℕ, zero, suc, Bool, false, cond, Option, none, some, List, [], ◌∷◌, get_elem?, leb}
+use Rattle.std.specs.Prelude.{◌∷◌}
+use Rattle.rules.specs.Words.{ℕ, zero, suc, Bool, false, cond, Option, none, some, List, [], get_elem?, leb}
 
 -- Number i of a list.
 unfoldable pub at : {A : Type 0} → List A → ℕ → Option A

@@ -1,6 +1,7 @@
 -- The record. Eight bytes each, no header. Byte 0 is the kind. Bytes 2-3 are x and bytes 4-5 are y, low byte first. Bytes 1, 6 and 7
 -- are zero.
-use Rattle.rules.specs.Words.{ℕ, zero, suc, ◌+◌, ◌*◌, ◌/◌, ◌%◌, Bool, ◌&&◌, List, [], ◌∷◌, ◌++◌, length, drop, get_or, eqb}
+use Rattle.std.specs.Prelude.{◌+◌, ◌*◌, ◌/◌, ◌%◌, ◌&&◌, ◌∷◌, ◌++◌}
+use Rattle.rules.specs.Words.{ℕ, zero, suc, Bool, List, [], length, drop, get_or, eqb}
 
 pub record Rec : Type 0 where
   pub kind : ℕ

@@ -1,5 +1,6 @@
 -- What is turned away: the paper's number and place of each refusal, and how a call's checks follow one another.
-use Rattle.rules.specs.Words.{ℕ, zero, suc, Bool, cond, Option, none, some, List, [], ◌∷◌}
+use Rattle.std.specs.Prelude.{◌∷◌}
+use Rattle.rules.specs.Words.{ℕ, zero, suc, Bool, cond, Option, none, some, List, []}
 use Rattle.rules.specs.declared.Refusal.{Refusal}
 use Rattle.rules.specs.declared.Refusal.TheVariants.{Ragged, Long, Kind, Field, Nesting, Skip, Growth, Room, Reply, State, Far, Label}
 use Rattle.rules.specs.declared.Verdict.{Verdict}

@@ -1,5 +1,6 @@
 -- Relative jumps (2.2), record by record. Every other record stays as it is.
-use Rattle.rules.specs.Words.{ℕ, zero, suc, ◌+◌, ◌-◌, cond, List, [], ◌∷◌, eqb, leb, ltb}
+use Rattle.std.specs.Prelude.{◌+◌, ◌-◌, ◌∷◌}
+use Rattle.rules.specs.Words.{ℕ, zero, suc, cond, List, [], eqb, leb, ltb}
 use Rattle.rules.specs.Numbers.{each}
 use Rattle.rules.specs.Record.{Rec, rec}
 

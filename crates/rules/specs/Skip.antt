@@ -1,5 +1,6 @@
 -- The places added in the base, refusal 6 and the converted length.
-use Rattle.rules.specs.Words.{ℕ, suc, ◌+◌, ◌*◌, Bool, not, cond, ◌&&◌, ◌||◌, Option, none, some, List, [], ◌∷◌, length, eqb, ltb}
+use Rattle.std.specs.Prelude.{◌+◌, ◌*◌, ◌&&◌, ◌||◌, ◌∷◌}
+use Rattle.rules.specs.Words.{ℕ, suc, Bool, not, cond, Option, none, some, List, [], length, eqb, ltb}
 use Rattle.rules.specs.declared.Row.{Row}
 use Rattle.rules.specs.declared.Notation.TheVariants.{Routine}
 use Rattle.rules.specs.Table.{row_of}

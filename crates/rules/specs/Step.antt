@@ -1,5 +1,6 @@
 -- What one step does, in a routine and in a base.
-use Rattle.rules.specs.Words.{ℕ, suc, ◌+◌, ◌-◌, ◌*◌, Bool, true, not, cond, Option, none, some, List, length, get_or, set, eqb, leb, ltb}
+use Rattle.std.specs.Prelude.{◌+◌, ◌-◌, ◌*◌}
+use Rattle.rules.specs.Words.{ℕ, suc, Bool, true, not, cond, Option, none, some, List, length, get_or, set, eqb, leb, ltb}
 use Rattle.rules.specs.declared.Stack.{Stack}
 use Rattle.rules.specs.declared.Status.{Status}
 use Rattle.rules.specs.declared.Status.TheVariants.{Ended, NoReply, LogFull, StackFull}

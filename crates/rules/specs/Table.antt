@@ -1,5 +1,6 @@
 -- The table of kinds. Written out singly it has sixteen rows, one for each kind a routine may use. An unlisted field is zero.
-use Rattle.rules.specs.Words.{ℕ, ◌-◌, cond, Option, List, [], ◌∷◌, take, leb}
+use Rattle.std.specs.Prelude.{◌-◌, ◌∷◌}
+use Rattle.rules.specs.Words.{ℕ, cond, Option, List, [], take, leb}
 use Rattle.rules.specs.declared.Row.{Row}
 use Rattle.rules.specs.declared.Notation.{Notation}
 use Rattle.rules.specs.declared.Notation.TheVariants.{Routine, Base, Relative}

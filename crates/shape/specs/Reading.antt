@@ -1,6 +1,6 @@
 -- What the answers of the body reader and the item reader mean: in terms of reading from the left with the items that are open.
-use Rattle.std.specs.Prelude.{◌≡◌, ◌≤◌, ◌<◌}
-use Rattle.rules.specs.Words.{ℕ, suc, ◌+◌, ◌*◌, false, cond, List, ◌∷◌, drop, get_or, ltb}
+use Rattle.std.specs.Prelude.{◌≡◌, ◌≤◌, ◌<◌, ◌+◌, ◌*◌, ◌∷◌}
+use Rattle.rules.specs.Words.{ℕ, suc, false, cond, List, drop, get_or, ltb}
 use Rattle.rules.specs.Record.{count}
 use Rattle.rules.specs.Instruction as instruction
 use Rattle.rules.specs.Instruction.{jump, ops}

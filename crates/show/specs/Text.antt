@@ -1,5 +1,6 @@
 -- What the programs of cases print, byte for byte: a record as the paper writes it, and a verdict.
-use Rattle.rules.specs.Words.{ℕ, List, [], ◌∷◌, map, get_or}
+use Rattle.std.specs.Prelude.{◌∷◌}
+use Rattle.rules.specs.Words.{ℕ, List, [], map, get_or}
 use Rattle.rules.specs.declared.Verdict.{Verdict}
 use Rattle.rules.specs.declared.Verdict.TheVariants.{Accepted, Refused}
 use Rattle.rules.specs.Refusals.{told}

@@ -1,5 +1,6 @@
 -- Soundness of a counter stack, place by place; a verdict on a file with the checks 9 and 10 after it; and what a refused call answers.
-use Rattle.rules.specs.Words.{ℕ, Bool, cond, not, ◌&&◌, List, eqb, leb, ltb}
+use Rattle.std.specs.Prelude.{◌&&◌}
+use Rattle.rules.specs.Words.{ℕ, Bool, cond, not, List, eqb, leb, ltb}
 use Rattle.rules.specs.declared.Stack.{Stack}
 use Rattle.rules.specs.declared.State.{State}
 use Rattle.rules.specs.declared.Ran.{Ran}

@@ -1,6 +1,6 @@
 -- What the two tables of partners have for a record; and what passing one record does to them.
-use Rattle.std.specs.Prelude.{◌≡◌, ◌≤◌}
-use Rattle.rules.specs.Words.{ℕ, suc, ◌-◌, Bool, true, false, cond, List, drop, get_or, set}
+use Rattle.std.specs.Prelude.{◌≡◌, ◌≤◌, ◌-◌}
+use Rattle.rules.specs.Words.{ℕ, suc, Bool, true, false, cond, List, drop, get_or, set}
 use Rattle.rules.specs.Instruction.{Sort, loop, Op, ops}
 use Rattle.rules.specs.Numbers.{at}
 use Rattle.rules.specs.Record.{count}

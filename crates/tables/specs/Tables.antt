@@ -1,5 +1,6 @@
 -- A table has a number for each record of a file, found for all of them in one pass, so that each can be looked up.
-use Rattle.rules.specs.Words.{ℕ, suc, Bool, cond, ◌&&◌, List, ◌∷◌, ◌++◌, length, drop, leb, ltb}
+use Rattle.std.specs.Prelude.{◌&&◌, ◌∷◌, ◌++◌}
+use Rattle.rules.specs.Words.{ℕ, suc, Bool, cond, List, length, drop, leb, ltb}
 use Rattle.laws.proofs.Instructions.{tabulate}
 
 -- f of records 1 to n. Entry 0 is 0: there is no such record.

@@ -1,7 +1,8 @@
 -- Texts read and routines written by the definitions, row by row.
 use mathlib.Core.Path.{◌≡◌}
 use Prim.Native.String.{String}
-use Rattle.rules.specs.Words.{ℕ, List, [], ◌∷◌, ◌++◌, map, replicate}
+use Rattle.std.specs.Prelude.{◌∷◌, ◌++◌}
+use Rattle.rules.specs.Words.{ℕ, List, [], map, replicate}
 use Rattle.rules.specs.declared.Refusal.TheVariants.{Ragged, Long, Kind, Field, Room}
 use Rattle.rules.specs.Record.{Rec, rec, bytes_of}
 use Rattle.rules.specs.Instruction.{encode}

@@ -8,7 +8,8 @@ use Prim.Native.Nat.{◌≤◌, ◌<◌}
 use native.Mathlib.Omega.{arith}
 use lib.ListN.{get_or-eq_default}
 use borrow.Author.Tests.{ltb-true, ltb-false, eqb-true, eqb-false, leb-false}
-use Rattle.rules.specs.Words.{ℕ, zero, suc, ◌+◌, true, false, cond, List, length, eqb, leb, ltb}
+use Rattle.std.specs.Prelude.{◌+◌}
+use Rattle.rules.specs.Words.{ℕ, zero, suc, true, false, cond, List, length, eqb, leb, ltb}
 use Rattle.text.specs.declared.Sort.{Sort}
 use Rattle.text.specs.declared.Sort.TheVariants.{Blank, Digit, Named}
 use Rattle.text.specs.declared.Took.{Took}

@@ -1,6 +1,6 @@
 -- What the two calls answer, and what the lent buffer then holds, on every input.
-use Rattle.std.specs.Prelude.{◌≡◌}
-use Rattle.rules.specs.Words.{ℕ, cond, Option, none, some, List, [], ◌++◌, length, drop, eqb, ltb}
+use Rattle.std.specs.Prelude.{◌≡◌, ◌++◌}
+use Rattle.rules.specs.Words.{ℕ, cond, Option, none, some, List, [], length, drop, eqb, ltb}
 use Rattle.rules.specs.declared.Refusal.{Refusal}
 use Rattle.rules.specs.declared.Refusal.TheVariants.{Long, Room}
 use Rattle.rules.specs.declared.Notation.TheVariants.{Routine}

@@ -1,6 +1,7 @@
 -- The forms of an instruction, and how far a text follows one.
 use Prim.Native.Char.{code}
-use Rattle.rules.specs.Words.{ℕ, zero, suc, ◌+◌, Bool, true, false, cond, ◌||◌, List, [], ◌∷◌, length, get_or, eqb, leb, ltb}
+use Rattle.std.specs.Prelude.{◌+◌, ◌||◌, ◌∷◌}
+use Rattle.rules.specs.Words.{ℕ, zero, suc, Bool, true, false, cond, List, [], length, get_or, eqb, leb, ltb}
 use Rattle.text.specs.declared.Sort.{Sort}
 use Rattle.text.specs.declared.Sort.TheVariants.{Blank, Digit, Named}
 use Rattle.text.specs.declared.Took.{Took}

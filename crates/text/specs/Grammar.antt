@@ -1,7 +1,7 @@
 -- What a text is, as a grammar: nothing here says how it is read.
-use Rattle.std.specs.Prelude.{◌≡◌, ◌≤◌, ◌<◌}
+use Rattle.std.specs.Prelude.{◌≡◌, ◌≤◌, ◌<◌, ◌∷◌, ◌++◌}
 use Prim.Native.Char.{code}
-use Rattle.rules.specs.Words.{ℕ, suc, true, List, [], ◌∷◌, ◌++◌, length}
+use Rattle.rules.specs.Words.{ℕ, suc, true, List, [], length}
 use Rattle.text.specs.declared.Sort.{Sort}
 use Rattle.text.specs.declared.Sort.TheVariants.{Blank, Digit, Named}
 use Rattle.text.specs.Bytes.{in_sort}

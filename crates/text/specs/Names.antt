@@ -1,5 +1,6 @@
 -- Names and numbers: an action's number is its place in the lent list, a label's that of its first appearance.
-use Rattle.rules.specs.Words.{ℕ, zero, suc, ◌+◌, ◌*◌, ◌-◌, ◌/◌, ◌%◌, Bool, true, false, not, cond, ◌&&◌, ◌||◌, List, [], ◌∷◌, ◌++◌, length, take, drop, get_or, replicate, eqb, leb, ltb}
+use Rattle.std.specs.Prelude.{◌+◌, ◌*◌, ◌-◌, ◌/◌, ◌%◌, ◌&&◌, ◌||◌, ◌∷◌, ◌++◌}
+use Rattle.rules.specs.Words.{ℕ, zero, suc, Bool, true, false, not, cond, List, [], length, take, drop, get_or, replicate, eqb, leb, ltb}
 use Rattle.text.specs.declared.Sort.TheVariants.{Digit, Named}
 use Rattle.text.specs.Bytes.{run}
 

@@ -1,5 +1,6 @@
 -- A text read, one instruction after the other, to records or to a refusal.
-use Rattle.rules.specs.Words.{ℕ, zero, suc, ◌+◌, ◌-◌, cond, List, [], ◌∷◌, ◌++◌, length, eqb, ltb}
+use Rattle.std.specs.Prelude.{◌+◌, ◌-◌, ◌∷◌, ◌++◌}
+use Rattle.rules.specs.Words.{ℕ, zero, suc, cond, List, [], length, eqb, ltb}
 use Rattle.rules.specs.Record.{Rec, rec}
 use Rattle.text.specs.declared.Sort.TheVariants.{Blank}
 use Rattle.text.specs.declared.Fit.{Fit}

@@ -1,6 +1,7 @@
 -- A routine written as text.
 use Prim.Native.Char.{code}
-use Rattle.rules.specs.Words.{ℕ, zero, suc, ◌+◌, ◌/◌, ◌%◌, cond, List, [], ◌∷◌, ◌++◌, eqb, ltb}
+use Rattle.std.specs.Prelude.{◌+◌, ◌/◌, ◌%◌, ◌∷◌, ◌++◌}
+use Rattle.rules.specs.Words.{ℕ, zero, suc, cond, List, [], eqb, ltb}
 use Rattle.rules.specs.Record.{Rec}
 use Rattle.text.specs.Bytes.{ascii}
 use Rattle.text.specs.Forms.{a, k, s, t, signs_of, letter_of}

@@ -1,5 +1,6 @@
 -- The one number that a step needs besides its record's own fields: where a goto or a bracket leads.
-use Rattle.rules.specs.Words.{ℕ, List, [], ◌∷◌, get_or}
+use Rattle.std.specs.Prelude.{◌∷◌}
+use Rattle.rules.specs.Words.{ℕ, List, [], get_or}
 use Rattle.rules.specs.Numbers.{or_zero, past}
 use Rattle.rules.specs.Instruction.{conditional, loop, Op, ops}
 use Rattle.rules.specs.Labels.{target, target2}

@@ -1,6 +1,6 @@
 -- A table of places: entry k is of record k + 1.
-use Rattle.std.specs.Prelude.{◌≤◌, ◌<◌}
-use Rattle.rules.specs.Words.{ℕ, suc, cond, ◌&&◌, List, length, get_or, leb, ltb}
+use Rattle.std.specs.Prelude.{◌≤◌, ◌<◌, ◌&&◌}
+use Rattle.rules.specs.Words.{ℕ, suc, cond, List, length, get_or, leb, ltb}
 use Rattle.rules.specs.Record.{count}
 use Rattle.rules.specs.Instruction.{conditional, loop}
 use Rattle.laws.proofs.Instructions.{tabulate}

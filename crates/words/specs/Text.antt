@@ -1,6 +1,7 @@
 -- The words of a listing, byte for byte: actions and instructions.
 use Prim.Native.String.{String}
-use Rattle.rules.specs.Words.{ℕ, cond, List, [], ◌++◌, eqb}
+use Rattle.std.specs.Prelude.{◌++◌}
+use Rattle.rules.specs.Words.{ℕ, cond, List, [], eqb}
 use Rattle.rules.specs.Record.{Rec}
 use Rattle.rules.specs.Instruction.{Act, outside, push, pop, compare, act_of}
 use Rattle.print.specs.Text.{ascii, decimal}

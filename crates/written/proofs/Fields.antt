@@ -4,7 +4,8 @@ use Prim.Native.Nat.{◌≤◌, ◌<◌}
 use native.Mathlib.Omega.{arith}
 use lib.Dec.{T}
 use borrow.Author.Tests.{eqb-true, le-leb, leb-true, not-false, ltb-true, ltb-false}
-use Rattle.rules.specs.Words.{ℕ, zero, suc, Bool, true, false, cond, ◌&&◌, ◌||◌, Option, none, some, List, [], ◌∷◌, drop, eqb, leb, ltb}
+use Rattle.std.specs.Prelude.{◌&&◌, ◌||◌, ◌∷◌}
+use Rattle.rules.specs.Words.{ℕ, zero, suc, Bool, true, false, cond, Option, none, some, List, [], drop, eqb, leb, ltb}
 use Rattle.rules.specs.declared.Row.{Row}
 use Rattle.rules.specs.declared.Refusal.{Refusal}
 use Rattle.rules.specs.declared.Refusal.TheVariants.{Kind, Field}

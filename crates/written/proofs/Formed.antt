@@ -4,7 +4,8 @@ use Prim.Native.Nat.{◌≤◌, ◌<◌}
 use native.Mathlib.Omega.{arith}
 use lib.Dec.{T}
 use borrow.Author.Tests.{eqb-true}
-use Rattle.rules.specs.Words.{ℕ, suc, Bool, true, false, not, ◌||◌, List, [], ◌∷◌, ◌++◌, map, eqb}
+use Rattle.std.specs.Prelude.{◌||◌, ◌∷◌, ◌++◌}
+use Rattle.rules.specs.Words.{ℕ, suc, Bool, true, false, not, List, [], map, eqb}
 use Rattle.rules.specs.Record.{Rec}
 use Rattle.text.specs.declared.Sort.TheVariants.{Named}
 use Rattle.text.specs.Forms.{a, k, s, t, signs_of, letter_in, letter_of, itself, part_of}

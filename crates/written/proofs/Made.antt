@@ -6,7 +6,8 @@ use native.Mathlib.Omega.{arith}
 use mathlib.Core.List.{append_assoc}
 use lib.Seq.{length-take-le}
 use borrow.Author.Tests.{eqb-true, eqb-false, ltb-false}
-use Rattle.rules.specs.Words.{ℕ, zero, suc, ◌+◌, true, false, cond, ◌||◌, List, [], ◌∷◌, ◌++◌, length, take, eqb, ltb}
+use Rattle.std.specs.Prelude.{◌+◌, ◌||◌, ◌∷◌, ◌++◌}
+use Rattle.rules.specs.Words.{ℕ, zero, suc, true, false, cond, List, [], length, take, eqb, ltb}
 use Rattle.rules.specs.Record.{Rec, rec}
 use Rattle.text.specs.declared.Sort.TheVariants.{Blank, Named}
 use Rattle.text.specs.Bytes.{run, span}

@@ -4,7 +4,8 @@ use Prim.Native.Nat.{◌≤◌, ◌<◌}
 use native.Mathlib.Omega.{arith}
 use lib.ListN.{length-append}
 use borrow.Author.Tests.{eq-eqb, ne_eqb, eqb-true, eqb-false, le-leb, leb-true, lt-ltb, ltb-true, ltb-false}
-use Rattle.rules.specs.Words.{ℕ, zero, suc, ◌+◌, ◌-◌, true, false, cond, List, [], ◌∷◌, ◌++◌, length, get_or, replicate, eqb, leb, ltb}
+use Rattle.std.specs.Prelude.{◌+◌, ◌-◌, ◌∷◌, ◌++◌}
+use Rattle.rules.specs.Words.{ℕ, zero, suc, true, false, cond, List, [], length, get_or, replicate, eqb, leb, ltb}
 use Rattle.text.specs.declared.Sort.TheVariants.{Named}
 use Rattle.text.specs.Bytes.{byte_at, digit, letter, in_sort, run}
 use Rattle.text.specs.Names.{same, place_from, place_of, padded, action_of, entry, name_of, proper, label_of, with_label}

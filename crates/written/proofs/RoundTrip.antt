@@ -3,7 +3,8 @@ use mathlib.Core.Path.{◌≡◌, refl, sym, ap, ◌∙◌}
 use Prim.Native.Nat.{◌≤◌}
 use native.Mathlib.Omega.{arith}
 use borrow.Author.Tests.{le-ltb, ltb-false}
-use Rattle.rules.specs.Words.{ℕ, zero, suc, ◌*◌, ◌/◌, ◌%◌, false, not, none, List, length, drop, eqb, ltb}
+use Rattle.std.specs.Prelude.{◌*◌, ◌/◌, ◌%◌}
+use Rattle.rules.specs.Words.{ℕ, zero, suc, false, not, none, List, length, drop, eqb, ltb}
 use Rattle.rules.specs.declared.Notation.TheVariants.{Routine}
 use Rattle.rules.specs.declared.Refusal.TheVariants.{Long, Room}
 use Rattle.rules.specs.Record.{Rec, bytes_of, records}

@@ -5,7 +5,8 @@ use Prim.Native.Nat.{◌≤◌, ◌<◌}
 use native.Mathlib.Omega.{arith}
 use lib.ListN.{get_or-eq_default, length-append}
 use borrow.Author.Tests.{ltb-true, ltb-false}
-use Rattle.rules.specs.Words.{ℕ, zero, suc, ◌-◌, true, List, [], ◌∷◌, ◌++◌, map, length, get_or, replicate, eqb, ltb}
+use Rattle.std.specs.Prelude.{◌-◌, ◌∷◌, ◌++◌}
+use Rattle.rules.specs.Words.{ℕ, zero, suc, true, List, [], map, length, get_or, replicate, eqb, ltb}
 use Rattle.rules.specs.declared.Notation.TheVariants.{Routine}
 use Rattle.rules.specs.Record.{Rec, rec, count, records}
 use Rattle.rules.specs.Table.{row_of}

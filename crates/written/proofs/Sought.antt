@@ -6,7 +6,8 @@ use mathlib.Core.List.{append_assoc}
 use lib.Dec.{T}
 use lib.ListN.{length-append}
 use lib.Seq.{append_snoc}
-use Rattle.rules.specs.Words.{ℕ, suc, ◌+◌, Bool, true, false, cond, List, [], ◌∷◌, ◌++◌, length, eqb}
+use Rattle.std.specs.Prelude.{◌+◌, ◌∷◌, ◌++◌}
+use Rattle.rules.specs.Words.{ℕ, suc, Bool, true, false, cond, List, [], length, eqb}
 use Rattle.text.specs.declared.Sort.TheVariants.{Digit}
 use Rattle.text.specs.Forms.{a, k, s, signs_of, letter_in, letter_of, Part, itself, name, number, part_of, x_at}
 use Rattle.text.specs.Names.{name_at, digits_at}

@@ -4,7 +4,8 @@ use Prim.Native.Nat.{◌≤◌}
 use Prim.Native.Char.{code}
 use native.Mathlib.Omega.{arith}
 use borrow.Author.Tests.{eqb-true}
-use Rattle.rules.specs.Words.{ℕ, suc, true, Option, none, some, List, [], ◌∷◌, ◌++◌, eqb}
+use Rattle.std.specs.Prelude.{◌∷◌, ◌++◌}
+use Rattle.rules.specs.Words.{ℕ, suc, true, Option, none, some, List, [], eqb}
 use Rattle.rules.specs.declared.Refusal.{Refusal}
 use Rattle.rules.specs.declared.Notation.TheVariants.{Routine}
 use Rattle.rules.specs.Record.{Rec, count, records}

@@ -3,7 +3,8 @@ use mathlib.Core.Path.{◌≡◌, refl, sym}
 use Prim.Native.Nat.{◌≤◌}
 use lib.Dec.{T}
 use borrow.Author.Tests.{eqb-true, leb-true}
-use Rattle.rules.specs.Words.{ℕ, Bool, true, false, ◌&&◌, ◌||◌, eqb, leb}
+use Rattle.std.specs.Prelude.{◌&&◌, ◌||◌}
+use Rattle.rules.specs.Words.{ℕ, Bool, true, false, eqb, leb}
 use Rattle.text.proofs.Tests.{never}
 
 pub T_true : (b : Bool) → T b → b ≡ true

@@ -1,6 +1,6 @@
 -- What is proved of the texts that are written: they are texts, and what was read comes back.
-use Rattle.std.specs.Prelude.{◌≡◌, ◌≤◌, ◌<◌}
-use Rattle.rules.specs.Words.{ℕ, suc, ◌*◌, cond, ◌||◌, List, [], ◌∷◌, ◌++◌, map, length, get_or, eqb, ltb}
+use Rattle.std.specs.Prelude.{◌≡◌, ◌≤◌, ◌<◌, ◌*◌, ◌||◌, ◌∷◌, ◌++◌}
+use Rattle.rules.specs.Words.{ℕ, suc, cond, List, [], map, length, get_or, eqb, ltb}
 use Rattle.rules.specs.Record.{Rec, records}
 use Rattle.text.specs.declared.TextVerdict.TheVariants.{Done}
 use Rattle.text.specs.Forms.{s, t, signs_of}

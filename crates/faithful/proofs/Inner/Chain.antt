@@ -7,7 +7,8 @@ use mathlib.Core.List.{append_assoc, map-append}
 use lib.ListN.{length-append}
 use lib.Dec.{eqb-zero-suc, leb-suc-zero}
 use borrow.Author.Tests.{le-leb, lt-leb, eqb-true, eqb-false}
-use Rattle.rules.specs.Words.{ℕ, zero, suc, ◌+◌, Bool, true, false, cond, Option, none, some, List, [], ◌∷◌, ◌++◌, map, length, eqb, leb}
+use Rattle.std.specs.Prelude.{◌+◌, ◌∷◌, ◌++◌}
+use Rattle.rules.specs.Words.{ℕ, zero, suc, Bool, true, false, cond, Option, none, some, List, [], map, length, eqb, leb}
 use Rattle.rules.specs.Instruction.{pop, compare, conditional, Op, act, jump, header, separator, end}
 use Rattle.rules.specs.Numbers.{at, given, past, names, move_to}
 use Rattle.rules.specs.Nesting.{bracket, Body, nothing, single, two_armed}

@@ -5,7 +5,8 @@ use Prim.Native.Nat.{◌≤◌, ◌<◌, zero-le}
 use native.Mathlib.Omega.{arith}
 use lib.ListN.{length-append, length-map}
 use borrow.Author.Tests.{leb-true, leb-false, le-leb, lt-leb}
-use Rattle.rules.specs.Words.{ℕ, zero, suc, ◌+◌, Bool, true, false, List, [], ◌∷◌, ◌++◌, map, length, leb}
+use Rattle.std.specs.Prelude.{◌+◌, ◌∷◌, ◌++◌}
+use Rattle.rules.specs.Words.{ℕ, zero, suc, Bool, true, false, List, [], map, length, leb}
 use Rattle.rules.specs.Instruction.{Op}
 use Rattle.rules.specs.Numbers.{names, move_to}
 use Rattle.rules.specs.SecondLevel.{Group, ◌▹◌, members, seconds, renumber, sent, laid}

@@ -5,7 +5,8 @@ use Prim.Native.Nat.{◌<◌}
 use native.Mathlib.Nat.{add-zero}
 use native.Mathlib.Omega.{arith}
 use mathlib.Core.List.{tail, head?, append_assoc, append-nil}
-use Rattle.rules.specs.Words.{ℕ, zero, suc, ◌+◌, Bool, true, false, cond, ◌&&◌, Option, none, some, List, [], ◌∷◌, ◌++◌, length, drop, get_or, get_elem?}
+use Rattle.std.specs.Prelude.{◌+◌, ◌&&◌, ◌∷◌, ◌++◌}
+use Rattle.rules.specs.Words.{ℕ, zero, suc, Bool, true, false, cond, Option, none, some, List, [], length, drop, get_or, get_elem?}
 use Rattle.rules.specs.Instruction.{Act, Sort, conditional, loop, Op, header, separator, end}
 use Rattle.rules.specs.Numbers.{at, past}
 use Rattle.rules.specs.Nesting.{alone, bracket, Body, nothing, single, looping, one_armed, two_armed}

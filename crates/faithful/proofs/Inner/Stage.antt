@@ -6,7 +6,8 @@ use Prim.Native.Nat.{◌≤◌}
 use native.Mathlib.Nat.{zero-add}
 use native.Mathlib.Omega.{arith}
 use lib.Dec.{leb→le}
-use Rattle.rules.specs.Words.{ℕ, zero, suc, ◌+◌, Bool, true, false, none, some, List, [], ◌∷◌, ◌++◌, map, length, get_elem?}
+use Rattle.std.specs.Prelude.{◌+◌, ◌∷◌, ◌++◌}
+use Rattle.rules.specs.Words.{ℕ, zero, suc, Bool, true, false, none, some, List, [], map, length, get_elem?}
 use Rattle.rules.specs.Instruction.{Act, Sort, conditional, loop, Op, act, test, jump, label, goto, goto2, header, separator, end, call, return}
 use Rattle.rules.specs.Numbers.{at, each, given, past, move_to}
 use Rattle.rules.specs.Nesting.{bracket}

@@ -4,7 +4,8 @@ use mathlib.Core.Path.{◌≡◌, refl, sym, ◌∙◌, subst}
 use Prim.Native.Nat.{◌≤◌, zero-le}
 use native.Mathlib.Omega.{arith}
 use lib.Dec.{T, leb→le}
-use Rattle.rules.specs.Words.{ℕ, zero, suc, Bool, true, false, not, List, [], ◌∷◌, ◌++◌, map, length, leb}
+use Rattle.std.specs.Prelude.{◌∷◌, ◌++◌}
+use Rattle.rules.specs.Words.{ℕ, zero, suc, Bool, true, false, not, List, [], map, length, leb}
 use Rattle.rules.specs.Instruction.{Act, push, Sort, conditional, loop, Op, act, test, jump, label, goto, goto2, header, separator, end, call, return}
 use Rattle.rules.specs.Nesting.{bracket, Body, nothing, single}
 use Rattle.rules.specs.Skip.{adding, plain_test}
