@@ -1,5 +1,5 @@
 // What a run answers, printed.
-use crate::print::{named, word};
+use crate::printing::{named, word};
 use records::number;
 use refusals::{number_of, place_of};
 use rules::{Outcome, Ran, Refusal, Status};

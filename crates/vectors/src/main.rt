@@ -4,9 +4,9 @@
 #![tactic(auto)]
 
 mod answers;
-mod calls;
 mod notation;
-mod print;
+mod printing;
+mod public_calls;
 
 ghost use Rattle.std.specs.Prelude.{◌≤◌, ◌<◌, length};
 
@@ -37,10 +37,10 @@ fn try_case(rt: &HostRuntime, case: &[u8]) -> io::Result<()> {
     let s = &file[..n];
     let replies = part(case, 8, y_at(case, 1) as usize);
     match what {
-        0..=4 => calls::judge(rt, what, records, s),
-        5 => calls::run(rt, s, replies),
-        6 => calls::run_base_of(rt, s, replies),
-        _ => calls::find(rt, what, records, s, x_at(case, 2), y_at(case, 2)),
+        0..=4 => public_calls::judge(rt, what, records, s),
+        5 => public_calls::run(rt, s, replies),
+        6 => public_calls::run_base_of(rt, s, replies),
+        _ => public_calls::find(rt, what, records, s, x_at(case, 2), y_at(case, 2)),
     }
 }
 

@@ -1,7 +1,7 @@
 // The records of a case.
 ghost use Rattle.std.specs.Prelude.{◌≡◌, ◌≤◌, length, take};
 
-use crate::print::{named, record, word};
+use crate::printing::{named, record, word};
 use records::{kind_at, number, put_record, x_at, y_at};
 use std::io;
 

@@ -2,7 +2,7 @@
 use crate::answers::print_ran;
 use crate::notation::print_records;
 use crate::part;
-use crate::print::{answer_line, named, word};
+use crate::printing::{answer_line, named, word};
 use lower::convert;
 use partners::Sort;
 use rules::Verdict;
