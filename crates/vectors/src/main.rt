@@ -8,7 +8,7 @@ mod notation;
 mod printing;
 mod public_calls;
 
-ghost use Rattle.std.specs.Prelude.{◌≤◌, ◌<◌, length};
+ghost use Rattle.std.specs.Prelude.{◌≤◌, ◌<◌, length, IfOk};
 
 use notation::expand;
 use records::{kind_at, x_at, y_at};
@@ -67,11 +67,23 @@ fn try_all(rt: &HostRuntime, cases: &[u8]) -> io::Result<()> {
     Ok(())
 }
 
-// No more of the input is read.
-const MOST_INPUT: u64 = 65536;
+// Reads until the buffer is full or the input ends: so many bytes at its start.
+fn read_full(rt: &HostRuntime, buffer: &mut [u8]) -> io::Result<usize>
+    ensures { IfOk result (λ n. n ≤ length buffer.new) }
+{
+    let mut at = 0;
+    while at < buffer.len() {
+        let more = rt.stdin().read(&mut buffer[at..])?;
+        if more == 0 {
+            return Ok(at);
+        }
+        at += more;
+    }
+    Ok(at)
+}
 
 fn main(rt: HostRuntime) -> io::Result<()> {
-    let mut input = Vec::new(rt.alloc());
-    rt.stdin().take(MOST_INPUT).read_to_end(&mut input)?;
-    try_all(&rt, &input)
+    let mut input = [0u8; 65536];
+    let n = read_full(&rt, &mut input)?;
+    try_all(&rt, &input[..n])
 }
