@@ -14,7 +14,7 @@ pub loop-k-preserved-else-kind-le14 : goal.loop-k-preserved-else-kind-le14
 loop-k-preserved-else-kind-le14 c = plain_more _ _ _ c.kind_at-kind.ensures (λ l. c.if-kind-le14.false) c.loop-k.invariant
 
 pub loop-k-preserved : goal.loop-k-preserved
-loop-k-preserved c = plain_more _ _ _ c.kind_at-kind.ensures (λ l. absurd (omega (arith, c.if-kind-ge8.false))) c.loop-k.invariant
+loop-k-preserved c = plain_more _ _ _ c.kind_at-kind.ensures (λ l. absurd (omega arith)) c.loop-k.invariant
 
 pub returns : goal.returns
 returns c = λ e j a b. c.loop-k.invariant j a (omega arith)
