@@ -1,12 +1,12 @@
 -- The contracts of the exported calls: the answer as told in numbers, and every lent buffer as the call below leaves it.
 use Rattle.std.specs.Prelude.{◌≡◌}
 use Rattle.rules.specs.Words.{ℕ, List}
-use Rattle.rules.specs.declared.Verdict.{Verdict}
+use Rattle.rules.specs.Refusals.{Verdict}
 use Rattle.rules.specs.Record.{Rec}
 use Rattle.rules.specs.Answers.{filled, cleared, base_records, converting, Call}
 use Rattle.listing.specs.Text.{text_of}
 use Rattle.listing.specs.Answers.{listing_of, printed}
-use Rattle.text.specs.declared.TextVerdict.{TextVerdict}
+use Rattle.text.specs.Answers.{TextVerdict}
 use Rattle.text.specs.Answers as text
 use Rattle.told.specs.declared.QhVerdict.{QhVerdict}
 use Rattle.told.specs.declared.QhRan.{QhRan}

@@ -10,14 +10,14 @@ ghost use Rattle.told.specs.Numbers.{verdict_told, state_given};
 ghost use Rattle.abi.specs.Exported.{Converts, Translates, Calls, Lists, Types};
 
 use rules::Notation;
-use told::{QhRan, QhState, QhVerdict, state_given, tell_ran, tell_text, tell_verdict};
+use told::{QhRan, QhState, QhVerdict};
 
 // The checks of a routine, 1 to 5, 14, 6 and 7.
 #[unsafe(no_mangle)]
 pub extern "C" fn qh_check_routine(bytes: &[u8]) -> QhVerdict
     ensures { result ≡ verdict_told (check_routine bytes.now) }
 {
-    tell_verdict(shape::check_routine(bytes))
+    shape::check_routine(bytes).into()
 }
 
 // The checks of a base.
@@ -25,7 +25,7 @@ pub extern "C" fn qh_check_routine(bytes: &[u8]) -> QhVerdict
 pub extern "C" fn qh_check_base(bytes: &[u8]) -> QhVerdict
     ensures { result ≡ verdict_told (check_records Notation.Base bytes.now) }
 {
-    tell_verdict(checks::check_base(bytes))
+    checks::check_records(Notation::Base, bytes).into()
 }
 
 // The checks of a relative base.
@@ -33,7 +33,7 @@ pub extern "C" fn qh_check_base(bytes: &[u8]) -> QhVerdict
 pub extern "C" fn qh_check_relative(bytes: &[u8]) -> QhVerdict
     ensures { result ≡ verdict_told (check_records Notation.Relative bytes.now) }
 {
-    tell_verdict(checks::check_relative(bytes))
+    checks::check_records(Notation::Relative, bytes).into()
 }
 
 // The base of a routine.
@@ -41,7 +41,7 @@ pub extern "C" fn qh_check_relative(bytes: &[u8]) -> QhVerdict
 pub extern "C" fn qh_convert(routine: &[u8], out: &mut [u8], work: &mut [u8]) -> QhVerdict
     ensures { Converts routine.now out.old work.old result out.new work.new }
 {
-    tell_verdict(lower::convert(routine, out, work))
+    lower::convert(routine, out, work).into()
 }
 
 // Absolute to relative jumps.
@@ -49,7 +49,7 @@ pub extern "C" fn qh_convert(routine: &[u8], out: &mut [u8], work: &mut [u8]) ->
 pub extern "C" fn qh_to_relative(base: &[u8], out: &mut [u8]) -> QhVerdict
     ensures { Translates (relating base.now out.old) (to_relative (records base.now)) out.old result out.new }
 {
-    tell_verdict(relative::to_relative(base, out))
+    relative::to_relative(base, out).into()
 }
 
 // Relative to absolute jumps.
@@ -57,7 +57,7 @@ pub extern "C" fn qh_to_relative(base: &[u8], out: &mut [u8]) -> QhVerdict
 pub extern "C" fn qh_to_absolute(relative: &[u8], out: &mut [u8]) -> QhVerdict
     ensures { Translates (absoluting relative.now out.old) (to_absolute (records relative.now)) out.old result out.new }
 {
-    tell_verdict(relative::to_absolute(relative, out))
+    relative::to_absolute(relative, out).into()
 }
 
 // Runs a routine from its start.
@@ -70,7 +70,7 @@ pub extern "C" fn qh_run_routine(
 ) -> QhRan
     ensures { Calls (run_routine routine.now replies.now log.old budget) result log.new }
 {
-    tell_ran(machine::run_routine(routine, replies, log, budget))
+    machine::run_routine(routine, replies, log, budget).into()
 }
 
 // Runs a base from its start.
@@ -78,7 +78,7 @@ pub extern "C" fn qh_run_routine(
 pub extern "C" fn qh_run_base(base: &[u8], replies: &[u8], log: &mut [u8], budget: u64) -> QhRan
     ensures { Calls (run_base base.now replies.now log.old budget) result log.new }
 {
-    tell_ran(machine::run_base(base, replies, log, budget))
+    machine::run_base(base, replies, log, budget).into()
 }
 
 // One step of a routine from a given state.
@@ -91,7 +91,7 @@ pub extern "C" fn qh_step_routine(
 ) -> QhRan
     ensures { Calls (step_routine routine.now replies.now log.old (state_given state)) result log.new }
 {
-    tell_ran(machine::step_routine(routine, replies, log, state_given(state)))
+    machine::step_routine(routine, replies, log, state.into()).into()
 }
 
 // One step of a base from a given state.
@@ -99,7 +99,7 @@ pub extern "C" fn qh_step_routine(
 pub extern "C" fn qh_step_base(base: &[u8], replies: &[u8], log: &mut [u8], state: QhState) -> QhRan
     ensures { Calls (step_base base.now replies.now log.old (state_given state)) result log.new }
 {
-    tell_ran(machine::step_base(base, replies, log, state_given(state)))
+    machine::step_base(base, replies, log, state.into()).into()
 }
 
 // The listing of a routine: its text, and how many bytes that has.
@@ -107,7 +107,7 @@ pub extern "C" fn qh_step_base(base: &[u8], replies: &[u8], log: &mut [u8], stat
 pub extern "C" fn qh_list(routine: &[u8], text: &mut [u8]) -> QhVerdict
     ensures { Lists routine.now text.old result text.new }
 {
-    tell_verdict(listing::list(routine, text))
+    listing::list(routine, text).into()
 }
 
 // A typed routine read to its records.
@@ -115,7 +115,7 @@ pub extern "C" fn qh_list(routine: &[u8], text: &mut [u8]) -> QhVerdict
 pub extern "C" fn qh_read_text(text: &[u8], names: &[u8], out: &mut [u8]) -> QhVerdict
     ensures { Types (reading text.now names.now out.old) (bytes_read text.now names.now) out.old result out.new }
 {
-    tell_text(reader::read_text(text, names, out))
+    reader::read_text(text, names, out).into()
 }
 
 // A routine written as text.
@@ -123,5 +123,5 @@ pub extern "C" fn qh_read_text(text: &[u8], names: &[u8], out: &mut [u8]) -> QhV
 pub extern "C" fn qh_write_text(routine: &[u8], names: &[u8], text: &mut [u8]) -> QhVerdict
     ensures { Types (writing routine.now names.now text.old) (text_written routine.now names.now) text.old result text.new }
 {
-    tell_text(writer::write_text(routine, names, text))
+    writer::write_text(routine, names, text).into()
 }

@@ -1,25 +1,32 @@
 // Stage 2: calls and returns (4.1, 4.2).
 #![tactic(auto)]
 
-ghost use Rattle.std.specs.Prelude.{[], ◌∷◌, ◌≤◌};
-ghost use Rattle.rules.specs.Record.{rec, count};
-ghost use Rattle.records.specs.Reading.{rec_at};
+ghost use Rattle.std.specs.Prelude.{◌≡◌, [], ◌∷◌, ◌≤◌};
+ghost use Rattle.rules.specs.Record.{rec};
+ghost use Rattle.places.specs.declared.Stage.TheVariants as Stage;
 ghost use Rattle.places.specs.Stages.{Leading};
-ghost use Rattle.places.specs.Groups.{chain_by, called, staged};
+ghost use Rattle.places.specs.Groups.{chain_by, staged};
 ghost use Rattle.places.specs.Writing.{Fitted};
 
-use places::{Stage, fill_places, put_kept, put_pair};
-use records::{kind_at, put_record, x_at};
+use places::{Expansion, File, Stage, fill_places, put_kept, put_pair, write_groups};
+use records::{jump, put_record, record_at};
+use rules::Record;
 use tables::look;
+
+fn record(kind: u8, x: u16, y: u16) -> Record
+    ensures { result ≡ rec kind x y }
+{
+    Record { kind, x, y }
+}
 
 // The first four records of the chain for j: +compare(j){, pop, ##to and }{.
 fn put_link(out: &mut [u8], j: u16, to: u16) -> usize
     ensures { Fitted (rec 8 1003 j ∷ rec 1 1002 0 ∷ rec 4 to 0 ∷ rec 10 0 0 ∷ []) out.old out.new result }
 {
-    let mut at = put_record(out, 8, 1003, j);
-    at += put_record(&mut out[at..], 1, 1002, 0);
-    at += put_record(&mut out[at..], 4, to, 0);
-    at + put_record(&mut out[at..], 10, 0, 0)
+    let mut at = put_record(out, record(8, 1003, j));
+    at += put_record(&mut out[at..], record(1, 1002, 0));
+    at += put_record(&mut out[at..], jump(to));
+    at + put_record(&mut out[at..], record(10, 0, 0))
 }
 
 // The chain for j: a link, whose second arm holds the chain for j-1, or ##0 where j is 1; and }.
@@ -27,31 +34,47 @@ fn write_chain(places: &[u16], j: usize, out: &mut [u8]) -> usize
     requires { (1 ≤ j) × (j ≤ 4096) }
     ensures { Fitted (chain_by places.now j) out.old out.new result }
 {
-    let link = put_link(out, j as u16, look(places, j));
-    if j == 1 {
-        let arm = link + put_record(&mut out[link..], 4, 0, 0);
-        return arm + put_record(&mut out[arm..], 11, 0, 0);
-    }
-    let arm = link + write_chain(places, j - 1, &mut out[link..]);
-    arm + put_record(&mut out[arm..], 11, 0, 0)
+    // j is within 4,096, which is proved: try_from would add an arm that never runs.
+    let mut at = put_link(out, j as u16, look(places, j));
+    at += match j {
+        1 => put_record(&mut out[at..], jump(0)),
+        _ => write_chain(places, j - 1, &mut out[at..]),
+    };
+    at + put_record(&mut out[at..], record(11, 0, 0))
 }
 
-// R##k at i becomes push(i+1) followed by a second-level ##k. ##R becomes the chain for n, the routine's record count.
-fn write_group(s: &[u8], places: &[u16], i: usize, out: &mut [u8]) -> usize
-    requires s_bound { (count s.now ≤ 4096) × (1 ≤ i) × (i ≤ count s.now) }
-    requires leading { Leading Stage.Calls s.now places.now }
-    ensures { Fitted (called s.now i (rec_at s.now i)) out.old out.new result }
-{
-    match kind_at(s, i) {
-        15 => put_pair(
-            out,
-            1,
-            1001,
-            (i + 1) as u16,
-            look(places, x_at(s, i) as usize),
-        ),
-        16 => write_chain(places, s.len() / 8, out),
-        _ => put_kept(s, i, places, out),
+// The file, and where its jumps lead.
+#[derive(Drop)]
+pub struct Calls<'a> {
+    file: File<'a>,
+    places: [u16; 4097],
+    ghost led: { Leading Stage.Calls file.s.now places },
+}
+
+impl<'a> Expansion<'a> for Calls<'a> {
+    ghost stage = { Stage.Calls };
+
+    ghost given = { λ it. it.file.s.now };
+
+    fn file(&self) -> File<'a> {
+        self.file
+    }
+
+    // R##k at i becomes push(i+1) followed by a second-level ##k. ##R becomes the chain for n, the routine's record count.
+    #[tactic(auto, using(places::proofs::Groups::chain_led, places::proofs::Places::kept_led), unfolding(places::specs::Groups::group, places::specs::Groups::called))]
+    fn write_group(&self, i: usize, out: &mut [u8]) -> usize {
+        let s = self.file.s;
+        let Record { kind, x, .. } = record_at(s, i);
+        match kind {
+            // i is within 4,096 there, which is proved: try_from would add an arm that never runs.
+            15 => put_pair(
+                out,
+                record(1, 1001, (i + 1) as u16),
+                look(&self.places, usize::from(x)),
+            ),
+            16 => write_chain(&self.places, s.len() / 8, out),
+            _ => put_kept(s, i, &self.places, out),
+        }
     }
 }
 
@@ -60,17 +83,15 @@ fn write_group(s: &[u8], places: &[u16], i: usize, out: &mut [u8]) -> usize
 pub fn expand_calls(s: &[u8], out: &mut [u8]) -> usize
     ensures { Fitted (staged Stage.Calls s.now) out.old out.new result }
 {
-    let n = s.len() / 8;
-    if 4096 < n {
+    if 4096 < s.len() / 8 {
         return 0;
     }
-    let mut places = [0u16; 4097];
-    fill_places(Stage::Calls, s, &mut places);
-    let mut at = 0;
-    let mut i = 0;
-    while i < n {
-        at += write_group(s, &places, i + 1, &mut out[at..]);
-        i += 1;
-    }
-    at
+    let file = File { s };
+    // The tables are in the stage and filled there: handed over, they would be copied.
+    let mut made = Calls {
+        file,
+        places: [0; 4097],
+    };
+    fill_places(Stage::Calls, s, &mut made.places);
+    write_groups(&made, out)
 }

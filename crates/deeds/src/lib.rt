@@ -6,10 +6,11 @@ ghost use Rattle.rules.specs.Record.{count};
 ghost use Rattle.records.specs.Reading.{rec_at};
 ghost use Rattle.deeds.specs.Deeds.{place_in, asking, deed_of};
 
-use records::{kind_at, x_at, y_at};
+use records::record_at;
+use rules::Record;
 
 // The actions that change the counter stack.
-#[derive(Clone, Copy)]
+#[derive(Clone, Copy, Debug, PartialEq, Eq)]
 pub enum Own {
     Push(u16),
     Pop,
@@ -17,7 +18,7 @@ pub enum Own {
 
 // Go to the place; do the outside action, change the counter stack, or compare its top with the number, with the places on yes and on no;
 // go back to the number on top.
-#[derive(Clone, Copy)]
+#[derive(Clone, Copy, Debug, PartialEq, Eq)]
 pub enum Deed {
     Leap(usize),
     Ask(u16, usize, usize),
@@ -26,96 +27,64 @@ pub enum Deed {
     Return,
 }
 
-fn wide(v: u16) -> usize
-    ensures { result ≡ v }
-{
-    v as usize
-}
-
 // Where a goto or a bracket leads: from the table, which a base has none of.
+#[tactic(auto, unfolding(crate::specs::Deeds::place_in))]
 fn place_at(places: &[u16], i: usize) -> usize
     requires { 1 ≤ i }
     ensures { result ≡ place_in places.now i }
 {
-    if places.len() < i {
-        return 0;
-    }
-    wide(places[i - 1])
+    usize::from(places.get(i - 1).copied().unwrap_or(0))
 }
 
 // The record's action, with the places on yes and on no. In a base 1001 pushes y, 1002 pops, 1003 compares the top with y.
-fn ask(s: &[u8], i: usize, yes: usize, no: usize) -> Deed
-    ensures { result ≡ asking (rec_at s.now i).x (rec_at s.now i).y «yes» «no» }
+#[tactic(auto, unfolding(crate::specs::Deeds::asking))]
+fn ask(record: Record, yes: usize, no: usize) -> Deed
+    ensures { result ≡ asking «record».x «record».y «yes» «no» }
 {
-    let x = x_at(s, i);
-    match x {
-        1001 => Deed::Change(Own::Push(y_at(s, i)), yes, no),
+    match record.x {
+        1001 => Deed::Change(Own::Push(record.y), yes, no),
         1002 => Deed::Change(Own::Pop, yes, no),
-        1003 => Deed::Compare(y_at(s, i), yes, no),
-        _ => Deed::Ask(x, yes, no),
+        1003 => Deed::Compare(record.y, yes, no),
+        x => Deed::Ask(x, yes, no),
     }
 }
 
 // What one step does is decided by the kind: the paper's list, one kind after another. `next` is the number after i, as a call pushes
 // it. One caller only, the machine's loop, so that it is compiled into that.
+#[tactic(auto, using(ways::proofs::Places::from_one, ways::proofs::Places::in_file), unfolding(crate::specs::Deeds::deed_of, crate::specs::Deeds::rows))]
 pub fn deed_at(s: &[u8], places: &[u16], i: usize, next: u16) -> Deed
     ensures { result ≡ deed_of s.now places.now i next (rec_at s.now i).kind }
 {
-    match kind_at(s, i) {
+    let record = record_at(s, i);
+    match record.kind {
         // a: do a, go to i+1.
-        1 => ask(s, i, i + 1, i + 1),
+        1 => ask(record, i + 1, i + 1),
         // +a: on yes i+1, on no i+2.
-        2 => ask(s, i, i + 1, i + 2),
+        2 => ask(record, i + 1, i + 2),
         // -a: the reverse.
-        3 => ask(s, i, i + 2, i + 1),
+        3 => ask(record, i + 2, i + 1),
         // ##k: go to k.
-        4 => Deed::Leap(x_at(s, i) as usize),
+        4 => Deed::Leap(usize::from(record.x)),
         // [s]: i+1.
         5 => Deed::Leap(i + 1),
         // Gotos: to the target, or end.
-        6 => {
-            let target = place_at(places, i);
-            Deed::Leap(target)
-        }
-        7 => {
-            let target = place_at(places, i);
-            Deed::Leap(target)
-        }
+        6 | 7 => Deed::Leap(place_at(places, i)),
         // +a{ or +a{*: on yes i+1, on no past the separator, or the end where there is none, or the loop end.
-        8 => {
-            let past = place_at(places, i);
-            ask(s, i, i + 1, past)
-        }
-        12 => {
-            let past = place_at(places, i);
-            ask(s, i, i + 1, past)
-        }
+        8 | 12 => ask(record, i + 1, place_at(places, i)),
         // -a{ and -a{* with yes and no exchanged.
-        9 => {
-            let past = place_at(places, i);
-            ask(s, i, past, i + 1)
-        }
-        13 => {
-            let past = place_at(places, i);
-            ask(s, i, past, i + 1)
-        }
+        9 | 13 => ask(record, place_at(places, i), i + 1),
         // }{: past its end.
-        10 => {
-            let past = place_at(places, i);
-            Deed::Leap(past)
-        }
+        10 => Deed::Leap(place_at(places, i)),
         // }: i+1.
         11 => Deed::Leap(i + 1),
         // *}: to the loop header.
-        14 => {
-            let header = place_at(places, i);
-            Deed::Leap(header)
-        }
+        14 => Deed::Leap(place_at(places, i)),
         // R##k: push i+1, go to k.
-        15 => {
-            let k = x_at(s, i) as usize;
-            Deed::Change(Own::Push(next), k, k)
-        }
+        15 => Deed::Change(
+            Own::Push(next),
+            usize::from(record.x),
+            usize::from(record.x),
+        ),
         // ##R: back to the number on top.
         16 => Deed::Return,
         _ => Deed::Leap(0),

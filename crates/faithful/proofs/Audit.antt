@@ -4,7 +4,7 @@ use mathlib.Core.Path.{◌≡◌, refl, sym, ap, ◌∙◌, subst}
 use Prim.Native.Nat.{ℕ, zero, suc, ◌+◌, ◌*◌, ◌≤◌, ◌<◌, zero-le}
 use native.Mathlib.Omega.{arith}
 use mathlib.Core.Bool.{Bool, true, false, cond, ◌||◌}
-use mathlib.Core.Option.{Option, none, some}
+use Rattle.std.specs.Prelude.{Option, None, Some, Ok, Err}
 use mathlib.Core.List.{List, [], ◌∷◌, ◌++◌, map}
 use borrow.Author.Tests.{leb-true, eq-eqb, ne_eqb}
 use lib.ListN.{length, take, drop, length-map}
@@ -12,21 +12,17 @@ use lib.Seq.{take_at}
 use Rattle.rules.specs.declared.Notation.TheVariants.{Base}
 use Rattle.rules.specs.declared.Refusal.{Refusal}
 use Rattle.rules.specs.declared.Refusal.TheVariants.{Room, Reply as BadReply}
-use Rattle.rules.specs.declared.Verdict.{Verdict}
-use Rattle.rules.specs.declared.Verdict.TheVariants.{Accepted}
+use Rattle.rules.specs.Refusals.{Verdict, when, when_at, or_else, first, verdict_of, verdict}
 use Rattle.rules.specs.declared.Status.{Status}
 use Rattle.rules.specs.declared.Status.TheVariants.{Ended, NoReply, LogFull, StackFull, Spent}
-use Rattle.rules.specs.declared.Outcome.TheVariants.{Stopped, TurnedAway}
 use Rattle.rules.specs.Numbers.{at, names, move_to}
 use Rattle.rules.specs.Record.{count}
 use Rattle.rules.specs.Instruction.{Act, outside, push, pop, compare, Op, jump, encode, ops, file}
-use Rattle.rules.specs.Refusals.{when, when_at, or_else, first, verdict_of, verdict}
 use Rattle.rules.specs.Checks.{record_checks}
 use Rattle.rules.specs.Skip.{skip, converted_length}
 use Rattle.rules.specs.Convert.{convert}
-use Rattle.rules.specs.Stack.{top}
+use Rattle.rules.specs.Stack.{top, full}
 use Rattle.rules.specs.Step.{Deed, ask, leap, enter, leave, Mem, no_reply_left, log_is_full, perform, Acted, did, stops, Out, go, halt, agree, branch, leaving, does, step_at, step}
-use Rattle.rules.specs.Stack.{full}
 use Rattle.rules.specs.Run.{Run, one_more, onward, run, start_of, fresh_mem, runs}
 use Rattle.rules.specs.Answers.{routine_checks, short, check_records, check_routine, filled, base_records, base_count, converting, Converted, Call, ran, turned_away, unless, no_state, bad_reply, running, run_routine, run_base}
 use Rattle.laws.proofs.Records.{at-get_or, bytes_length, ops-length}
@@ -54,7 +50,7 @@ module _ (v : Bool) (t f : ℕ) where
 
   done : (r : Bool) (m : Mem) (u : Status) → branch v t f (did r m) ≡ halt u → stopper u ≡ true
   unfolding branch
-  done r m u e = absurd (let z : ◌≡◌ {A = ℕ} 0 1 = cc in omega arith)
+  done r m u e = cc
 
   performs : (a : Act) (m : Mem) (u : Status) → branch v t f (perform a m) ≡ halt u → stopper u ≡ true
   unfolding perform
@@ -66,19 +62,19 @@ module _ (v : Bool) (t f : ℕ) where
 does_halts : (n : ℕ) (d : Deed) (m : Mem) (u : Status) → does n d m ≡ halt u → stopper u ≡ true
 unfolding does leaving
 does_halts n (ask a v t f) m u e = performs v (move_to n t) (move_to n f) a m u e
-does_halts n (leap k) m u e = absurd (let z : ◌≡◌ {A = ℕ} 0 1 = cc in omega arith)
+does_halts n (leap k) m u e = cc
 does_halts n (enter r k) m u e = performs true (move_to n k) (move_to n k) (push r) m u e
 does_halts n leave m u e = by (top m.stack) e
   where
     pick : (b : Bool) (i j : ℕ) (x y : Mem) → cond b (go i x) (go j y) ≡ halt u → stopper u ≡ true
-    pick true i j x y e = absurd (let z : ◌≡◌ {A = ℕ} 0 1 = cc in omega arith)
-    pick false i j x y e = absurd (let z : ◌≡◌ {A = ℕ} 0 1 = cc in omega arith)
+    pick true i j x y e = cc
+    pick false i j x y e = cc
 
     by : (t : Option ℕ) → leaving n t m ≡ halt u → stopper u ≡ true
-    by none e = absurd (let z : ◌≡◌ {A = ℕ} 0 1 = cc in omega arith)
-    by (some t) e = pick (names n t) _ _ _ _ e
+    by None e = cc
+    by (Some t) e = pick (names n t) _ _ _ _ e
 
-step_halts : (L : List Op) (i : ℕ) (m : Mem) (u : Status) (o : Op) → at L i ≡ some o → step L i m ≡ halt u → stopper u ≡ true
+step_halts : (L : List Op) (i : ℕ) (m : Mem) (u : Status) (o : Op) → at L i ≡ Some o → step L i m ≡ halt u → stopper u ≡ true
 unfolding step step_at
 step_halts L i m u o q e = does_halts (length L) _ m u (rw q at e)
 
@@ -102,7 +98,7 @@ cond_in n false x y h k = k
 branch_in : (n : ℕ) (v : Bool) (t f : ℕ) (x : Acted) (j : ℕ) (m₁ : Mem) → t ≤ n → f ≤ n → branch v t f x ≡ go j m₁ → j ≤ n
 unfolding branch
 branch_in n v t f (did r m) j m₁ h k e = let z : cond (agree v r) t f ≡ j = cc in rw z at (cond_in n (agree v r) t f h k)
-branch_in n v t f (stops w) j m₁ h k e = absurd (let z : ◌≡◌ {A = ℕ} 0 1 = cc in omega arith)
+branch_in n v t f (stops w) j m₁ h k e = cc
 
 does_in : (n : ℕ) (d : Deed) (m : Mem) (j : ℕ) (m₁ : Mem) → does n d m ≡ go j m₁ → j ≤ n
 unfolding does leaving
@@ -119,16 +115,16 @@ does_in n leave m j m₁ e = by (top m.stack) e
     pick t false x y q e = zero_in e
 
     by : (t : Option ℕ) → leaving n t m ≡ go j m₁ → j ≤ n
-    by none e = zero_in e
-    by (some t) e = pick t (names n t) _ _ refl e
+    by None e = zero_in e
+    by (Some t) e = pick t (names n t) _ _ refl e
 
 step_in : (L : List Op) (i : ℕ) (m : Mem) (j : ℕ) (m₁ : Mem) → step L i m ≡ go j m₁ → j ≤ length L
 unfolding step step_at
 step_in L i m j m₁ e = by (at L i) e
   where
     by : (o : Option Op) → step_at L i o m ≡ go j m₁ → j ≤ length L
-    by none e = absurd (let z : ◌≡◌ {A = ℕ} 0 1 = cc in omega arith)
-    by (some o) e = does_in (length L) _ m j m₁ e
+    by None e = cc
+    by (Some o) e = does_in (length L) _ m j m₁ e
 
 after_in : (L : List Op) (c i : ℕ) (m : Mem) (j : ℕ) (m₁ : Mem) → i ≤ length L → after L c i m ≡ go j m₁ → j ≤ length L
 unfolding after and_then
@@ -138,15 +134,15 @@ after_in L (suc c) i m j m₁ h e = by (step L i m) (step_in L i m) e (after_in 
     by : (o : Out) → ((k : ℕ) (m₂ : Mem) → o ≡ go k m₂ → k ≤ length L) → and_then (λ k m₂. after L c k m₂) o ≡ go j m₁
         → ((k : ℕ) (m₂ : Mem) (x : ℕ) (y : Mem) → k ≤ length L → after L c k m₂ ≡ go x y → x ≤ length L) → j ≤ length L
     by (go k m₂) g e ih = ih k m₂ j m₁ (g k m₂ refl) e
-    by (halt w) g e ih = absurd (let z : ◌≡◌ {A = ℕ} 0 1 = cc in omega arith)
+    by (halt w) g e ih = cc
 
 -- a place that stops as a record does is a record's
-stands : (L : List Op) (i : ℕ) (m : Mem) → ¬ (i ≡ 0) → i ≤ length L → why (step L i m) ≡ some Ended → ⊥
+stands : (L : List Op) (i : ℕ) (m : Mem) → ¬ (i ≡ 0) → i ≤ length L → why (step L i m) ≡ Some Ended → ⊥
 unfolding why
 stands L zero m z h e = z refl
 stands L (suc k) m z h e = by (step L (suc k) m) refl e
   where
-    by : (o : Out) → step L (suc k) m ≡ o → why o ≡ some Ended → ⊥
+    by : (o : Out) → step L (suc k) m ≡ o → why o ≡ Some Ended → ⊥
     by (go j m₁) q e = let y : ◌≡◌ {A = ℕ} 0 1 = cc in omega arith
     by (halt w) q e =
         let y : w ≡ Ended = cc in
@@ -154,7 +150,7 @@ stands L (suc k) m z h e = by (step L (suc k) m) refl e
         let f : false ≡ true = ap stopper (sym y) ∙ g in
         let u : ◌≡◌ {A = ℕ} 0 1 = cc in omega arith
 
-at-end : (L : List Op) (i : ℕ) (m : Mem) → i ≡ 0 → why (step L i m) ≡ some Ended
+at-end : (L : List Op) (i : ℕ) (m : Mem) → i ≡ 0 → why (step L i m) ≡ Some Ended
 unfolding why step step_at at
 at-end L i m e = rw e
 
@@ -170,8 +166,8 @@ unfolding step step_at
 never_spent L i m e = by (at L i) refl e
   where
     by : (o : Option Op) → at L i ≡ o → step_at L i o m ≡ halt Spent → ⊥
-    by none q e = let u : ◌≡◌ {A = ℕ} 0 1 = cc in omega arith
-    by (some o) q e = let g : false ≡ true = does_halts (length L) _ m Spent e in let u : ◌≡◌ {A = ℕ} 0 1 = cc in omega arith
+    by None q e = let u : ◌≡◌ {A = ℕ} 0 1 = cc in omega arith
+    by (Some o) q e = let g : false ≡ true = does_halts (length L) _ m Spent e in let u : ◌≡◌ {A = ℕ} 0 1 = cc in omega arith
 
 run_spent : (L : List Op) (b i : ℕ) (m : Mem) → (run L b i m).status ≡ Spent → Whole L b i m
 unfolding run after and_then onward
@@ -193,16 +189,16 @@ run_to L (suc c) i m j m₁ e h = by (step L i m) e (run_to L c)
     by : (o : Out) → and_then (λ k m₂. after L c k m₂) o ≡ go j m₁ → ((k : ℕ) (m₂ : Mem) (x : ℕ) (y : Mem) → after L c k m₂ ≡ go x y → ¬ (x ≡ 0) → run L c k m₂ ≡ record { position = x; mem = y; steps = c; status = Spent })
         → onward i m (λ x y. run L c x y) o ≡ record { position = j; mem = m₁; steps = suc c; status = Spent }
     by (go k m₂) e ih = ap one_more (ih k m₂ j m₁ e h)
-    by (halt w) e ih = absurd (let z : ◌≡◌ {A = ℕ} 0 1 = cc in omega arith)
+    by (halt w) e ih = cc
 
 -- ## What the two runs answer
 
-last : (checks : List (Option Refusal)) (c : Option Refusal) → first checks ≡ none → first (checks ++ (c ∷ [])) ≡ c
+last : (checks : List (Option Refusal)) (c : Option Refusal) → first checks ≡ None → first (checks ++ (c ∷ [])) ≡ c
 unfolding or_else first
 last checks c e = first_append checks (c ∷ []) ∙ rw e (or_none c)
 
 -- no refusal among a call's own checks: it is turned away by a bad reply, or runs
-running_is : (checks : List (Option Refusal)) (s replies log : List ℕ) (budget : ℕ) → first checks ≡ none
+running_is : (checks : List (Option Refusal)) (s replies log : List ℕ) (budget : ℕ) → first checks ≡ None
     → running checks s replies log budget ≡ unless (when_at BadReply (bad_reply replies)) no_state log (ran (runs (ops s) replies log budget))
 unfolding running
 running_is checks s replies log budget e = ap (λ (c : Option Refusal). unless c no_state log (ran (runs (ops s) replies log budget))) (last checks _ e)
@@ -211,12 +207,12 @@ running_is checks s replies log budget e = ap (λ (c : Option Refusal). unless c
 tells : ℕ → List ℕ → Run → Call
 tells bad log r = unless (when_at BadReply bad) no_state log (ran r)
 
-both_turned : (bad : ℕ) (log : List ℕ) (x y : Run) (r : Refusal) → (tells bad log x).answer.outcome ≡ TurnedAway r → tells bad log y ≡ tells bad log x
+both_turned : (bad : ℕ) (log : List ℕ) (x y : Run) (r : Refusal) → (tells bad log x).answer.outcome ≡ Err r → tells bad log y ≡ tells bad log x
 unfolding tells unless when_at ran
 both_turned zero log x y r e = absurd (let u : ◌≡◌ {A = ℕ} 0 1 = cc in omega arith)
 both_turned (suc p) log x y r e = refl
 
-no-bad : (bad : ℕ) (log : List ℕ) (x : Run) (w : Status) → (tells bad log x).answer.outcome ≡ Stopped w → (bad ≡ 0) × (x.status ≡ w)
+no-bad : (bad : ℕ) (log : List ℕ) (x : Run) (w : Status) → (tells bad log x).answer.outcome ≡ Ok w → (bad ≡ 0) × (x.status ≡ w)
 unfolding tells unless when_at ran turned_away
 no-bad zero log x w e = (refl, cc)
 no-bad (suc p) log x w e = absurd (let u : ◌≡◌ {A = ℕ} 0 1 = cc in omega arith)
@@ -228,7 +224,7 @@ tells_ran bad log x e = rw e
 same_mem : (x y : Run) → x.mem ≡ y.mem → x.status ≡ y.status → Alike (ran x) (ran y)
 unfolding ran
 same_mem x y m w = record {
-  outcome = ap Stopped w;
+  outcome = ap Ok w;
   replies = ap (λ (z : Mem). z.used) m;
   actions = ap (λ (z : Mem). z.logged) m;
   stack = ap (λ (z : Mem). z.stack) m;
@@ -301,11 +297,11 @@ module _ (L : List Op) (allowed : skip L ≡ 0) (replies log : List ℕ) where
 module _ (s b : List ℕ)
     (routine-is : (replies log : List ℕ) (budget : ℕ) → run_routine s replies log budget ≡ tells (bad_reply replies) log (runs (ops s) replies log budget))
     (base_is : (replies log : List ℕ) (budget : ℕ) → run_base b replies log budget ≡ tells (bad_reply replies) log (runs (convert (ops s)) replies log budget)) where
-  turned_alike : (replies log : List ℕ) (budget other : ℕ) (r : Refusal) → (run_routine s replies log budget).answer.outcome ≡ TurnedAway r → run_base b replies log other ≡ run_routine s replies log budget
+  turned_alike : (replies log : List ℕ) (budget other : ℕ) (r : Refusal) → (run_routine s replies log budget).answer.outcome ≡ Err r → run_base b replies log other ≡ run_routine s replies log budget
   turned_alike replies log budget other r e =
       rw (routine-is replies log budget, base_is replies log other) (both_turned (bad_reply replies) log _ _ r (rw (routine-is replies log budget) at e))
 
-  followed : skip (ops s) ≡ 0 → (replies log : List ℕ) (budget : ℕ) (w : Status) → (run_routine s replies log budget).answer.outcome ≡ Stopped w → Followed s b replies log budget w
+  followed : skip (ops s) ≡ 0 → (replies log : List ℕ) (budget : ℕ) (w : Status) → (run_routine s replies log budget).answer.outcome ≡ Ok w → Followed s b replies log budget w
   unfolding ran
   followed allowed replies log budget w e =
       let k = no-bad (bad_reply replies) log (runs (ops s) replies log budget) w (rw (routine-is replies log budget) at e) in
@@ -320,15 +316,15 @@ module _ (s b : List ℕ)
         goes_on = λ h. let a = d.spent (k.1 ∙ h) in rw (r, o d.total) (same_mem _ _ a.0 a.1);
       }
 
-module _ (s out work out' work' : List ℕ) (m : ℕ) (c : Converted s out work (Accepted m) out' work') where
-  checked : verdict (routine_checks s ++ (when (short (base_count s) out || short (base_count s) work) Room ∷ [])) (base_count s) ≡ Accepted m
+module _ (s out work out' work' : List ℕ) (m : ℕ) (c : Converted s out work (Ok m) out' work') where
+  checked : verdict (routine_checks s ++ (when (short (base_count s) out || short (base_count s) work) Room ∷ [])) (base_count s) ≡ Ok m
   unfolding converting
   checked = sym c.answers
 
-  unrefused : first (routine_checks s) ≡ none
+  unrefused : first (routine_checks s) ≡ None
   unrefused = (neither _ _ (sym (first_append (routine_checks s) _) ∙ accepted-none _ _ checked)).0
 
-  approved : check_routine s ≡ Accepted (count s)
+  approved : check_routine s ≡ Ok (count s)
   unfolding check_routine verdict verdict_of
   approved = rw unrefused
 
@@ -365,7 +361,7 @@ audit s out work out' work' m c =
     let b = file (convert (ops s)) in
     subst (λ (x : List ℕ). Audited s x m) (sym (the_base s out work out' work' m c))
     (record {
-      accepted = (based s out work out' work' m c).checked ∙ ap Accepted (sym (sized s out work out' work' m c));
+      accepted = (based s out work out' work' m c).checked ∙ ap Ok (sym (sized s out work out' work' m c));
       refused = turned_alike s b (routine_runs s out work out' work' m c) (base_runs s out work out' work' m c);
       follows = followed s b (routine_runs s out work out' work' m c) (base_runs s out work out' work' m c) (allowed s out work out' work' m c);
     })

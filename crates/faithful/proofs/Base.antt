@@ -7,11 +7,10 @@ use native.Mathlib.Omega.{arith}
 use lib.ListN.{length-map}
 use lib.Dec.{leb-zero}
 use borrow.Author.Tests.{le-leb}
-use Rattle.std.specs.Prelude.{◌∷◌}
-use Rattle.rules.specs.Words.{ℕ, zero, suc, true, false, some, List, [], map, get_elem?}
+use Rattle.std.specs.Prelude.{◌∷◌, Ok}
+use Rattle.rules.specs.Words.{ℕ, zero, suc, true, false, Some, List, [], map, slice_get}
 use Rattle.rules.specs.declared.Notation.{Notation}
 use Rattle.rules.specs.declared.Notation.TheVariants.{Routine, Base}
-use Rattle.rules.specs.declared.Verdict.TheVariants.{Accepted}
 use Rattle.rules.specs.Numbers.{at, names}
 use Rattle.rules.specs.Table.{row_of}
 use Rattle.rules.specs.Instruction.{Act, outside, push, pop, compare, conditional, loop, Op, act, test, jump, label, goto, goto2, header, separator, end, call, return, act_rec, encode, ops, file}
@@ -61,7 +60,7 @@ all_proper (o ∷ os) r f = (proper o r.0 f.0, all_proper os r.2 f.1)
 
 -- ## The base
 
-rank_at : (os : List Op) (k j : ℕ) (o : Op) → Good k os → get_elem? os j ≡ some o → rank o ≤ k
+rank_at : (os : List Op) (k j : ℕ) (o : Op) → Good k os → slice_get os j ≡ Some o → rank o ≤ k
 rank_at [] k j o g e = clash cc
 rank_at (x ∷ os) k zero o g e = let h : x ≡ o = cc in subst (λ (y : Op). rank y ≤ k) h g.0
 rank_at (x ∷ os) k (suc j) o g e = rank_at os k j o g.2 e
@@ -105,10 +104,10 @@ base_accepted s n e =
     let r = a.room in
     record {
       kinds = kinds (convert L) c.good;
-      checked = accepted Base (map encode (convert L)) (omega arith) (all_proper (convert L) c.good f) ∙ ap Accepted l;
+      checked = accepted Base (map encode (convert L)) (omega arith) (all_proper (convert L) c.good f) ∙ ap Ok l;
       read_back = fit-ops (convert L) f;
     }
   where
-    kinds : (os : List Op) → Good 0 os → (i : ℕ) (o : Op) → at os i ≡ some o → (1 ≤ (encode o).kind) × ((encode o).kind ≤ 4)
+    kinds : (os : List Op) → Good 0 os → (i : ℕ) (o : Op) → at os i ≡ Some o → (1 ≤ (encode o).kind) × ((encode o).kind ≤ 4)
     kinds os g zero o e = clash cc
     kinds os g (suc j) o e = kind_of_lem o (rank_at os 0 j o g e)

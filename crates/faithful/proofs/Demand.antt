@@ -4,7 +4,7 @@ use Prim.Native.Nat.{◌≤◌, ◌<◌, zero-le}
 use native.Mathlib.Nat.{mul-suc}
 use native.Mathlib.Omega.{arith}
 use Rattle.std.specs.Prelude.{◌+◌, ◌*◌, ◌∷◌}
-use Rattle.rules.specs.Words.{ℕ, zero, suc, Bool, true, false, cond, Option, none, some, List, [], length, get_elem?}
+use Rattle.rules.specs.Words.{ℕ, zero, suc, Bool, true, false, cond, Option, None, Some, List, [], length, slice_get}
 use Rattle.rules.specs.declared.Status.{Status}
 use Rattle.rules.specs.Instruction.{Op, act, test, jump, label, goto, goto2, header, separator, end, call, return, conditional, loop, ops}
 use Rattle.rules.specs.Numbers.{at, each}
@@ -88,8 +88,8 @@ step_cost L zero m = omega arith
 step_cost L (suc k) m = by (at L (suc k)) refl
   where
     by : (x : Option Op) → at L (suc k) ≡ x → (1 ≤ cost_of (length L) x m) × (cost_of (length L) x m ≤ 2 * length L + 1)
-    by none e = omega arith
-    by (some o) e = op_cost (length L) o m (omega (arith, at_in L (suc k) o e))
+    by None e = omega arith
+    by (Some o) e = op_cost (length L) o m (omega (arith, at_in L (suc k) o e))
 
 -- In a base every step costs 1.
 base_cost : (L : List Op) → Good 0 L → (i : ℕ) (m : Mem) → cost_at L i m ≡ 1
@@ -111,7 +111,7 @@ base_cost L g (suc j) m = by (length L) L g j
     one n separator r = refl
     one n (end b) r = refl
 
-    by : (n : ℕ) (os : List Op) → Good 0 os → (j : ℕ) → cost_of n (get_elem? os j) m ≡ 1
+    by : (n : ℕ) (os : List Op) → Good 0 os → (j : ℕ) → cost_of n (slice_get os j) m ≡ 1
     by n [] g j = refl
     by n (o ∷ os) g zero = one n o g.0
     by n (o ∷ os) g (suc j) = by n os g.2 j
@@ -151,7 +151,7 @@ way_after L f {i} {m} (on {b = b} {c = c} a w e) =
     ap (λ (c : ℕ). after L c i m) h ∙ ap (and_then (λ j m'. after L b j m')) a ∙ way_after L f w
 
 -- Both go on, or both stop alike.
-way_goes : {L : List Op} {i : ℕ} {m : Mem} {j : ℕ} {m₁ : Mem} {c : ℕ} → Way L i m j m₁ c → 1 ≤ c → why (step L i m) ≡ none
+way_goes : {L : List Op} {i : ℕ} {m : Mem} {j : ℕ} {m₁ : Mem} {c : ℕ} → Way L i m j m₁ c → 1 ≤ c → why (step L i m) ≡ None
 unfolding why
 way_goes (stay e) h = absurd (omega arith)
 way_goes (on a w e) h = ap why a
@@ -214,7 +214,7 @@ run_is L (suc b) i m g = by (step L i m) refl (λ k m₂. run_is L b k m₂) g
     by (go k m₂) a ih h = let r = ih k m₂ (omega arith) in (ap (and_then (λ x y. after L (run L b k m₂).steps x y)) a ∙ r.0, r.1)
     by (halt w) a ih h = (refl, a)
 
-stop-halt : (o : Out) (w : Status) → why o ≡ some w → o ≡ halt w
+stop-halt : (o : Out) (w : Status) → why o ≡ Some w → o ≡ halt w
 unfolding why
 stop-halt (go i m) w e = clash cc
 stop-halt (halt v) w e = let z : v ≡ w = cc in ap halt z

@@ -4,7 +4,7 @@ use mathlib.Core.Path.{◌≡◌, refl, ap, ◌∙◌, subst, fun_ext}
 use Prim.Native.Nat.{◌≤◌}
 use native.Mathlib.Omega.{arith}
 use Rattle.std.specs.Prelude.{◌+◌, ◌&&◌, ◌∷◌}
-use Rattle.rules.specs.Words.{ℕ, zero, suc, Bool, true, false, cond, Option, none, some, List, [], length, drop, get_elem?}
+use Rattle.rules.specs.Words.{ℕ, zero, suc, Bool, true, false, cond, Option, None, Some, List, [], length, drop, slice_get}
 use Rattle.rules.specs.Instruction.{Sort, conditional, loop, Op, act, test, jump, label, goto, goto2, header, separator, end, call, return}
 use Rattle.rules.specs.Numbers.{at, each, move_to}
 use Rattle.rules.specs.Nesting.{bracket}
@@ -41,17 +41,17 @@ module _ (L : List Op) where
   role-alike b i o = ap (role_of b) (unlabel-alike bracket (λ x s. refl) (λ x s. refl) (λ x s t. refl) i o)
 
   -- What is alike of each record and what it becomes is alike of whatever stands at i.
-  at-alike : {A : Type 0} (F G : Option Op → A) (i : ℕ) → F none ≡ G none → ((o : Op) → F (some (unlabel L i o)) ≡ G (some o))
+  at-alike : {A : Type 0} (F G : Option Op → A) (i : ℕ) → F None ≡ G None → ((o : Op) → F (Some (unlabel L i o)) ≡ G (Some o))
       → F (at (labels L) i) ≡ G (at L i)
   unfolding labels at each
   at-alike F G zero e h = e
-  at-alike {A} F G (suc j) e h = by 1 L j (λ o. subst (λ (i : ℕ). F (some (unlabel L i o)) ≡ G (some o)) (omega arith) (h o))
+  at-alike {A} F G (suc j) e h = by 1 L j (λ o. subst (λ (i : ℕ). F (Some (unlabel L i o)) ≡ G (Some o)) (omega arith) (h o))
     where
-      by : (p : ℕ) (os : List Op) (j : ℕ) → ((o : Op) → F (some (unlabel L (j + p) o)) ≡ G (some o))
-          → F (get_elem? (each (unlabel L) p os) j) ≡ G (get_elem? os j)
+      by : (p : ℕ) (os : List Op) (j : ℕ) → ((o : Op) → F (Some (unlabel L (j + p) o)) ≡ G (Some o))
+          → F (slice_get (each (unlabel L) p os) j) ≡ G (slice_get os j)
       by p [] j h = e
-      by p (o ∷ os) zero h = subst (λ (i : ℕ). F (some (unlabel L i o)) ≡ G (some o)) (omega arith) (h o)
-      by p (o ∷ os) (suc j) h = by (suc p) os j (λ x. subst (λ (i : ℕ). F (some (unlabel L i x)) ≡ G (some x)) (omega arith) (h x))
+      by p (o ∷ os) zero h = subst (λ (i : ℕ). F (Some (unlabel L i o)) ≡ G (Some o)) (omega arith) (h o)
+      by p (o ∷ os) (suc j) h = by (suc p) os j (λ x. subst (λ (i : ℕ). F (Some (unlabel L i x)) ≡ G (Some x)) (omega arith) (h x))
 
   -- ## Partners stay
 

@@ -6,7 +6,7 @@ use native.Mathlib.Numerals.{add-one}
 use native.Mathlib.Omega.{arith}
 use mathlib.Core.List.{append_assoc, append-nil}
 use Rattle.std.specs.Prelude.{◌+◌, ◌∷◌, ◌++◌}
-use Rattle.rules.specs.Words.{ℕ, zero, suc, Bool, true, false, some, List, [], drop, get_elem?}
+use Rattle.rules.specs.Words.{ℕ, zero, suc, Bool, true, false, Some, List, [], drop, slice_get}
 use Rattle.rules.specs.Instruction.{Act, Sort, conditional, loop, Op, header, separator, end, ops}
 use Rattle.rules.specs.Numbers.{at}
 use Rattle.rules.specs.Nesting.{bracket, Body, nothing, single, looping, one_armed, two_armed}
@@ -106,7 +106,7 @@ module _ (L : List Op) where
   covered_append [] ys i c d = d
   covered_append (x ∷ xs) ys i c d = (c.0, covered_append xs ys (suc i) c.1 d)
 
-  covered_at : (os : List Op) (i j : ℕ) (o : Op) → Covered i os → get_elem? os j ≡ some o → Belongs L (j + i) o
+  covered_at : (os : List Op) (i j : ℕ) (o : Op) → Covered i os → slice_get os j ≡ Some o → Belongs L (j + i) o
   covered_at [] i j o c e = clash cc
   covered_at (x ∷ os) i zero o c e = let h : x ≡ o = cc in rw zero-add (subst (Belongs L i) h c.0)
   covered_at (x ∷ os) i (suc j) o c e = subst (λ (k : ℕ). Belongs L k o) (omega arith) (covered_at os (suc i) j o c.1 e)
@@ -138,7 +138,7 @@ module _ (L : List Op) where
       let d = then ys (suc k) (end conditional) r (covered _ y u₁) (as_end _ _ s) (covered more z (next (from_over ys u₁))) in
       (as_header _ _ s, then xs (suc j) separator os (covered _ x (next u)) (as_separator _ _ s) d)
 
-  belongs : Body L → (i : ℕ) (o : Op) → at L i ≡ some o → Belongs L i o
+  belongs : Body L → (i : ℕ) (o : Op) → at L i ≡ Some o → Belongs L i o
   unfolding at
   belongs y zero o e = clash cc
   belongs y (suc j) o e = subst (λ (k : ℕ). Belongs L k o) (add-one j) (covered_at L 1 j o (covered [] y (subst (From L 0) (sym (append-nil L)) whole)) e)

@@ -5,10 +5,9 @@ use Prim.Native.Nat.{◌≤◌}
 use native.Mathlib.Omega.{arith}
 use lib.Dec.{leb-zero}
 use borrow.Author.Tests.{le-leb, lt-leb, lt-ltb, le-ltb}
-use Rattle.std.specs.Prelude.{◌+◌, ◌-◌, ◌∷◌}
+use Rattle.std.specs.Prelude.{◌+◌, ◌-◌, ◌∷◌, Ok}
 use Rattle.rules.specs.Words.{ℕ, zero, suc, true, false, List, [], length}
 use Rattle.rules.specs.declared.Notation.TheVariants.{Base, Relative}
-use Rattle.rules.specs.declared.Verdict.TheVariants.{Accepted}
 use Rattle.rules.specs.Record.{Rec, rec, bytes_of, count, records}
 use Rattle.rules.specs.Instruction.{Act, outside, push, pop, compare, conditional, loop, Op, act, test, jump, label, goto, goto2, header, separator, end, call, return, x_of, act_rec, encode, decode}
 use Rattle.rules.specs.Numbers.{each}
@@ -140,7 +139,7 @@ relative_and_back s n e =
     let k = each-length relative_at 1 (records s) ∙ records-length s ∙ c in
     let b = records_back q (all_small q t.fine) in
     record {
-      checked = accepted Relative q (omega arith) t.fine ∙ ap Accepted k;
+      checked = accepted Relative q (omega arith) t.fine ∙ ap Ok k;
       read_back = b;
       near = t.near;
       same = t.same;

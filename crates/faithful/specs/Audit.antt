@@ -1,12 +1,10 @@
 -- The auditor's sentence: the routine the desk approved is the routine that ran. It speaks of files and of what the public calls answer
 -- and write, and of nothing else.
-use Rattle.std.specs.Prelude.{◌≡◌, ℕ, ◌+◌, ◌*◌, ◌≤◌, ◌<◌, List, take}
+use Rattle.std.specs.Prelude.{◌≡◌, ℕ, ◌+◌, ◌*◌, ◌≤◌, ◌<◌, List, take, Ok, Err}
 use Rattle.rules.specs.declared.Notation.TheVariants.{Base}
-use Rattle.rules.specs.declared.Verdict.TheVariants.{Accepted}
 use Rattle.rules.specs.declared.Refusal.{Refusal}
 use Rattle.rules.specs.declared.Status.{Status}
 use Rattle.rules.specs.declared.Status.TheVariants.{Spent}
-use Rattle.rules.specs.declared.Outcome.TheVariants.{Stopped, TurnedAway}
 use Rattle.rules.specs.Record.{count}
 use Rattle.rules.specs.Answers.{Converted, check_records, Call, run_routine, run_base}
 
@@ -31,9 +29,9 @@ pub record Followed (s b replies log : List ℕ) (budget : ℕ) (w : Status) : T
 -- If `convert` accepts the routine's bytes s and leaves out' in its output, then the base is the first 8 bytes per record of out'. It is
 -- accepted by `run_base`, and for all replies, every log and every budget the two runs are turned away alike or the base follows.
 pub record Audited (s b : List ℕ) (m : ℕ) : Type 0 where
-  pub accepted : check_records Base b ≡ Accepted m
-  pub refused : (replies log : List ℕ) (budget other : ℕ) (r : Refusal) → (run_routine s replies log budget).answer.outcome ≡ TurnedAway r → run_base b replies log other ≡ run_routine s replies log budget
-  pub follows : (replies log : List ℕ) (budget : ℕ) (w : Status) → (run_routine s replies log budget).answer.outcome ≡ Stopped w → Followed s b replies log budget w
+  pub accepted : check_records Base b ≡ Ok m
+  pub refused : (replies log : List ℕ) (budget other : ℕ) (r : Refusal) → (run_routine s replies log budget).answer.outcome ≡ Err r → run_base b replies log other ≡ run_routine s replies log budget
+  pub follows : (replies log : List ℕ) (budget : ℕ) (w : Status) → (run_routine s replies log budget).answer.outcome ≡ Ok w → Followed s b replies log budget w
 
 abbrev pub Audit : Type 0
-Audit = (s out work out' work' : List ℕ) (m : ℕ) → Converted s out work (Accepted m) out' work' → Audited s (take (8 * m) out') m
+Audit = (s out work out' work' : List ℕ) (m : ℕ) → Converted s out work (Ok m) out' work' → Audited s (take (8 * m) out') m

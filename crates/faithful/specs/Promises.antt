@@ -1,9 +1,8 @@
 -- What is proved of the definitions of `rules`, and where. Start here.
-use Rattle.std.specs.Prelude.{◌≡◌, ◌↔◌, ◌≤◌, ◌<◌, ◌+◌, ◌*◌}
-use Rattle.rules.specs.Words.{ℕ, zero, suc, Option, none, some, List, map, length, get_or}
+use Rattle.std.specs.Prelude.{◌≡◌, ◌↔◌, ◌≤◌, ◌<◌, ◌+◌, ◌*◌, Ok}
+use Rattle.rules.specs.Words.{ℕ, zero, suc, Option, None, Some, List, map, length, get_or}
 use Rattle.rules.specs.declared.Notation.TheVariants.{Base, Relative}
 use Rattle.rules.specs.declared.Status.{Status}
-use Rattle.rules.specs.declared.Verdict.TheVariants.{Accepted}
 use Rattle.rules.specs.Numbers.{at}
 use Rattle.rules.specs.Record.{bytes_of, records}
 use Rattle.rules.specs.Instruction.{Sort, Op, label, goto, goto2, encode, ops, file}
@@ -31,8 +30,8 @@ after L (suc c) i m = and_then (λ j m'. after L c j m') (step L i m)
 
 -- Why a step is not taken: none where it is.
 unfoldable pub why : Out → Option Status
-why (go i m) = none
-why (halt w) = some w
+why (go i m) = None
+why (halt w) = Some w
 
 -- The routine L of n records has taken s steps from its start and stands at i with m: counter stack, replies used, log, actions logged.
 -- Then its base, after a count of steps from s to (2n+1)·s, has the same m, and there takes its next step, or is stopped by the same
@@ -68,7 +67,7 @@ Demand3Run =
 -- Both, of a file that is accepted with n records.
 abbrev pub Demand3File : Type 0
 Demand3File =
-    (f : List ℕ) (n : ℕ) → check_routine f ≡ Accepted n → (replies log : List ℕ)
+    (f : List ℕ) (n : ℕ) → check_routine f ≡ Ok n → (replies log : List ℕ)
     → ((s i : ℕ) (m : Mem) → after (ops f) s (start_of (ops f)) (fresh_mem replies log) ≡ go i m → Follows n (ops f) replies log s i m)
     × ((budget : ℕ) → (runs (ops f) replies log budget).steps < budget → RunFollows n (ops f) replies log (runs (ops f) replies log budget))
 
@@ -81,7 +80,7 @@ pub record Encoded (f : List ℕ) : Type 0 where
 
 -- So of every file that is accepted, as a routine or as a base: reading its records loses nothing, and only `encode` has to be held beside the table of kinds.
 abbrev pub Encodings : Type 0
-Encodings = (f : List ℕ) (n : ℕ) → (check_routine f ≡ Accepted n → Encoded f) × (check_records Base f ≡ Accepted n → Encoded f)
+Encodings = (f : List ℕ) (n : ℕ) → (check_routine f ≡ Ok n → Encoded f) × (check_records Base f ≡ Ok n → Encoded f)
 
 -- ## Nesting (proofs/Grammar)
 
@@ -97,26 +96,26 @@ abbrev pub Partners : Type 0
 Partners =
     (L : List Op)
     → ((b : Sort) (h k e : ℕ) → Stands L b h k e → Partnered L b h k e)
-    × (Body L → (i : ℕ) (o : Op) → at L i ≡ some o → Belongs L i o)
+    × (Body L → (i : ℕ) (o : Op) → at L i ≡ Some o → Belongs L i o)
 
 -- So in a file that is accepted.
 abbrev pub PartnersFile : Type 0
-PartnersFile = (f : List ℕ) (n : ℕ) → check_routine f ≡ Accepted n → (i : ℕ) (o : Op) → at (ops f) i ≡ some o → Belongs (ops f) i o
+PartnersFile = (f : List ℕ) (n : ℕ) → check_routine f ≡ Ok n → (i : ℕ) (o : Op) → at (ops f) i ≡ Some o → Belongs (ops f) i o
 
 -- ## Gotos (proofs/Gotos)
 
 -- The lookup of the label s found the place of a record, and that record is [s].
 pub record Aimed (L : List Op) (s : ℕ) (found : Option ℕ) : Type 0 where
   pub place : ℕ
-  pub there : found ≡ some place
-  pub labelled : at L place ≡ some (label s)
+  pub there : found ≡ Some place
+  pub labelled : at L place ≡ Some (label s)
 
 -- In a file that is accepted every goto has a target, and it is a label record: so the step of a goto never ends there for want of one.
 abbrev pub Gotos : Type 0
 Gotos =
-    (f : List ℕ) (n : ℕ) → check_routine f ≡ Accepted n → (i : ℕ)
-    → ((s : ℕ) → at (ops f) i ≡ some (goto s) → Aimed (ops f) s (target (ops f) s))
-    × ((s t : ℕ) → at (ops f) i ≡ some (goto2 s t) → Aimed (ops f) t (target2 (ops f) s t))
+    (f : List ℕ) (n : ℕ) → check_routine f ≡ Ok n → (i : ℕ)
+    → ((s : ℕ) → at (ops f) i ≡ Some (goto s) → Aimed (ops f) s (target (ops f) s))
+    × ((s t : ℕ) → at (ops f) i ≡ Some (goto2 s t) → Aimed (ops f) t (target2 (ops f) s t))
 
 -- ## The base (proofs/Base)
 
@@ -126,24 +125,24 @@ Length = (L : List Op) → length (convert L) ≡ converted_length L
 
 -- The base of the file f holds kinds 1 to 4 only, passes the base's own checks, and is read back from its bytes.
 pub record Based (f : List ℕ) : Type 0 where
-  pub kinds : (i : ℕ) (o : Op) → at (convert (ops f)) i ≡ some o → (1 ≤ (encode o).kind) × ((encode o).kind ≤ 4)
-  pub checked : check_records Base (file (convert (ops f))) ≡ Accepted (converted_length (ops f))
+  pub kinds : (i : ℕ) (o : Op) → at (convert (ops f)) i ≡ Some o → (1 ≤ (encode o).kind) × ((encode o).kind ≤ 4)
+  pub checked : check_records Base (file (convert (ops f))) ≡ Ok (converted_length (ops f))
   pub read_back : ops (file (convert (ops f))) ≡ convert (ops f)
 
 -- So a converted routine is never refused by them.
 abbrev pub BaseAccepted : Type 0
-BaseAccepted = (f : List ℕ) (n : ℕ) → check_routine f ≡ Accepted n → Based f
+BaseAccepted = (f : List ℕ) (n : ℕ) → check_routine f ≡ Ok n → Based f
 
 -- ## Relative jumps (proofs/Relative)
 
 -- The base f of n records becomes a relative base that is accepted, with no number too far, and back it is the same records; hence,
 -- where f is bytes, the same bytes.
 pub record RoundTrip (f : List ℕ) (n : ℕ) : Type 0 where
-  pub checked : check_records Relative (bytes_of (to_relative (records f))) ≡ Accepted n
+  pub checked : check_records Relative (bytes_of (to_relative (records f))) ≡ Ok n
   pub read_back : records (bytes_of (to_relative (records f))) ≡ to_relative (records f)
   pub near : far (to_relative (records f)) ≡ 0
   pub same : to_absolute (to_relative (records f)) ≡ records f
   pub same_bytes : ((k : ℕ) → get_or f k 0 < 256) → bytes_of (to_absolute (records (bytes_of (to_relative (records f))))) ≡ f
 
 abbrev pub RelativeAndBack : Type 0
-RelativeAndBack = (f : List ℕ) (n : ℕ) → check_records Base f ≡ Accepted n → RoundTrip f n
+RelativeAndBack = (f : List ℕ) (n : ℕ) → check_records Base f ≡ Ok n → RoundTrip f n

@@ -1,22 +1,14 @@
 -- Which kinds 1..n holds.
 use mathlib.Core.Path.{◌≡◌, refl}
-use Prim.Native.Nat.{ℕ, zero, suc, ◌≤◌, ◌<◌}
+use Prim.Native.Nat.{ℕ, zero, suc}
 use native.Mathlib.Omega.{arith}
-use mathlib.Core.Bool.{true, false}
-use borrow.Author.Tests.{le-leb, lt-leb}
+use mathlib.Core.Bool.{◌&&◌}
+use lib.Dec.{leb}
+use borrow.Author.Tests.{le-leb}
 use Rattle.rules.specs.Numbers.{names}
 
--- 1..n holds a number that is not 0 and not above n
-pub names_in : (n k : ℕ) → ¬ (k ≡ 0) → k ≤ n → names n k ≡ true
+-- 1..n holds what is not below 1 and not above n
+pub names_range : (n k : ℕ) → names n k ≡ (leb 1 k && leb k n)
 unfolding names
-names_in n zero z h = absurd (z refl)
-names_in n (suc k) z h = le-leb (suc k) n h
-
-pub names_zero : (n k : ℕ) → k ≡ 0 → names n k ≡ false
-unfolding names
-names_zero n k e = rw e
-
-pub names_above : (n k : ℕ) → n < k → names n k ≡ false
-unfolding names
-names_above n zero h = absurd (omega arith)
-names_above n (suc k) h = lt-leb (suc k) n h
+names_range n zero = refl
+names_range n (suc k) = rw (le-leb 1 (suc k) (omega arith))

@@ -1,20 +1,25 @@
 -- Forms that begin alike, behind their first sign, by the bytes in which they differ.
 --     tests_off, tests_plain, tests_block, tests_loop     `+a`, `+a{`, `+a{*`: no name; nothing, `{` or `{*` behind it
 --     ends-both, ends_one                                 `}{`, `}`
+--     tests_are, ends_are                                 all of them
 use mathlib.Core.Path.{◌≡◌, refl, ap, ◌∙◌}
-use mathlib.Core.Bool.{false}
+use mathlib.Core.Bool.{false, cond}
 use mathlib.Core.List.{List, [], ◌∷◌}
 use Prim.Native.Nat.{ℕ, ◌+◌}
 use native.Mathlib.Omega.{arith}
+use lib.Dec.{eqb}
+use borrow.Author.Tests.{eqb-true, eqb-false}
 use Rattle.text.specs.declared.Sort.TheVariants.{Named}
-use Rattle.text.specs.declared.Took.TheVariants.{Off}
+use Rattle.std.specs.Prelude.{Result, Ok, Err}
 use Rattle.text.specs.Bytes.{byte_at}
-use Rattle.text.specs.Forms.{part_of, take_run, take_part, x_at, y_at, ending, fit, follow, further}
-use Rattle.parts.proofs.Further.{NameTo, nearer, least, took_on, took_off, inside, there, missing, halted, longer, shorter, two, three, level, brace, star}
+use Rattle.text.specs.Forms.{part_of, take_run, take_part, x_at, y_at, ending, fit, going, follow, further}
+use Rattle.text.specs.declared.Fit.{Fit}
+use Rattle.text.proofs.Tests.{by_test}
+use Rattle.parts.proofs.Further.{NameTo, name_to, nearer, least, took_on, took_off, inside, there, missing, halted, longer, shorter, two, three, level, brace, star}
 use Rattle.forms.specs.Families.{of_tests, of_ends}
 
 module _ (w : List ℕ) (at i j k e : ℕ) where
-  pub tests_off : take_run Named 16 w at ≡ Off e → of_tests i j k w at ≡ fit i false e 0 0
+  pub tests_off : take_run Named 16 w at ≡ Err e → of_tests i j k w at ≡ fit i false e 0 0
   unfolding take_part part_of
   tests_off h =
       three (took_off w 97 at e i [] 0 0 h) (took_off w 97 at e j (123 ∷ []) 0 0 h) (took_off w 97 at e k (123 ∷ 42 ∷ []) 0 0 h)
@@ -50,3 +55,27 @@ module _ (w : List ℕ) (at : ℕ) where
   pub ends_one : (byte_at w at ≡ 123 → ⊥) → of_ends w at ≡ further (fit 10 false at 0 0) (ending 11 w at 0 0)
   unfolding follow
   ends_one n = two (missing w brace at 10 0 0 [] n) refl
+
+  pub ends_are : of_ends w at ≡ cond (eqb (byte_at w at) 123) (ending 10 w (at + 1) 0 0) (further (fit 10 false at 0 0) (ending 11 w at 0 0))
+  ends_are =
+      by_test (eqb (byte_at w at) 123)
+      (λ t. rw t (ends-both (eqb-true (byte_at w at) 123 t)))
+      (λ t. rw t (ends_one (eqb-false (byte_at w at) 123 t)))
+
+-- as the code goes on behind a name
+abbrev tests_on : (i j k : ℕ) (w : List ℕ) (at e : ℕ) → Fit
+tests_on i j k w at e = cond (eqb (byte_at w e) 123) (cond (eqb (byte_at w (e + 1)) 42) (ending k w (e + 2) (at + 1) 0) (ending j w (e + 1) (at + 1) 0)) (ending i w e (at + 1) 0)
+
+pub tests_are : (i j k : ℕ) (w : List ℕ) (at : ℕ) → of_tests i j k w at ≡ going (take_run Named 16 w at) (tests_on i j k w at) (λ e. fit i false e 0 0)
+tests_are i j k w at = by (take_run Named 16 w at) refl
+  where
+    by : (r : Result ℕ ℕ) → take_run Named 16 w at ≡ r → of_tests i j k w at ≡ going r (tests_on i j k w at) (λ e. fit i false e 0 0)
+    by (Err e) h = tests_off w at i j k e h
+    by (Ok e) h =
+        let n = name_to w at e h in
+        by_test (eqb (byte_at w e) 123)
+        (λ t. let o = eqb-true (byte_at w e) 123 t in
+        by_test (eqb (byte_at w (e + 1)) 42)
+        (λ u. rw (t, u) (tests_loop w at i j k e n o (eqb-true (byte_at w (e + 1)) 42 u)))
+        (λ u. rw (t, u) (tests_block w at i j k e n o (eqb-false (byte_at w (e + 1)) 42 u))))
+        (λ t. rw t (tests_plain w at i j k e n (eqb-false (byte_at w e) 123 t)))

@@ -7,8 +7,7 @@ use native.Mathlib.Omega.{arith}
 use lib.Dec.{T, eqb, ltb}
 use lib.ListN.{length}
 use Rattle.text.specs.declared.Sort.TheVariants.{Blank}
-use Rattle.text.specs.declared.Took.{Took}
-use Rattle.text.specs.declared.Took.TheVariants.{On, Off}
+use Rattle.std.specs.Prelude.{Result, Ok, Err}
 use Rattle.text.specs.declared.Fit.{Fit}
 use Rattle.text.specs.Bytes.{byte_at, span}
 use Rattle.text.specs.Forms.{a, k, s, t, signs_of, take_sign, x_at, y_at, ending, fit, going, follow, fit_of, further, best_to}
@@ -25,7 +24,7 @@ pub record Inside (w : List ℕ) (at n : ℕ) (f : Fit) : Type 0 where
 
 module _ (w : List ℕ) (at n i : ℕ) (le : i ≤ n) where
   stuck : (e x y : ℕ) → e ≤ length w → x ≤ length w → y ≤ length w → Inside w at n (fit i false e x y)
-  stuck e x y hi hx hy = record { number = le; upto = omega arith; x = hx; y = hy; ahead = λ z. absurd (let o : ◌≡◌ {A = ℕ} 0 1 = cc in omega arith) }
+  stuck e x y hi hx hy = record { number = le; upto = omega arith; x = hx; y = hy; ahead = λ z. cc }
 
   ending_inside : (e x y : ℕ) → at ≤ e → e ≤ length w → x ≤ length w → y ≤ length w → Inside w at n (ending i w e x y)
   unfolding ending
@@ -44,13 +43,13 @@ module _ (w : List ℕ) (at n i : ℕ) (le : i ≤ n) where
       by (λ d x' y'. follow_inside ps d x' y' (above p ps ok).1) (take_sign p w e) (take_reach w e p (above p ps ok).0 hi)
     where
       by : ((d x' y' : ℕ) → at ≤ d → d ≤ length w → x' ≤ length w → y' ≤ length w → Inside w at n (follow i ps w d x' y'))
-          → (r : Took) → Reach w e r → Inside w at n (going r (λ d. follow i ps w d (x_at p e x) (y_at p e y)) (λ d. fit i false d x y))
-      by go (On d) h =
+          → (r : Result ℕ ℕ) → Reach w e r → Inside w at n (going r (λ d. follow i ps w d (x_at p e x) (y_at p e y)) (λ d. fit i false d x y))
+      by go (Ok d) h =
           let lt : e + 1 ≤ length w = omega arith in
           go d (x_at p e x) (y_at p e y) (omega arith) h.1
           (cond_has (λ v. v ≤ length w) (eqb p a || eqb p k || eqb p s) (e + 1) x (λ _. lt) (λ _. hx))
           (cond_has (λ v. v ≤ length w) (eqb p t) (e + 1) y (λ _. lt) (λ _. hy))
-      by go (Off d) h = stuck d x y (omega arith) hx hy
+      by go (Err d) h = stuck d x y (omega arith) hx hy
 
 pub best_inside : (w : List ℕ) (at n : ℕ) → at ≤ length w → Inside w at n (best_to w at n)
 unfolding best_to further

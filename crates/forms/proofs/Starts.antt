@@ -3,6 +3,7 @@
 --     starters, among, best_among     the forms that can start with a byte, and the best of all is the best of these
 --     best_bang, best-jumps, best_loop_end, best_plus, best_minus, best-label, best-ends     by the sign that stands there
 --     best-calls, best_none           where a letter or digit stands; where nothing does that a form can start with
+--     best_is                         all of them
 use mathlib.Core.Path.{◌≡◌, refl, sym, ap, ◌∙◌}
 use mathlib.Core.Bool.{Bool, true, false, cond}
 use mathlib.Core.List.{List, [], ◌∷◌}
@@ -12,7 +13,7 @@ use lib.Dec.{T, eqb}
 use lib.ListN.{length, get_or}
 use borrow.Author.Tests.{eqb-true, eqb-false, ne_eqb}
 use Rattle.text.specs.declared.Sort.TheVariants.{Named}
-use Rattle.text.specs.declared.Took.TheVariants.{Off}
+use Rattle.std.specs.Prelude.{Err}
 use Rattle.text.specs.declared.Fit.{Fit}
 use Rattle.text.specs.Bytes.{byte_at, digit, letter, in_sort}
 use Rattle.text.specs.Forms.{a, k, s, t, part_of, forms, signs_of, take_run, take_part, take_sign, ending, fit, follow, fit_of, further, best_to, best_of}
@@ -45,7 +46,7 @@ within (f ∷ fs) (suc i) h ok = within fs i (omega arith) (rest (plain f) ok)
     rest false ok = absurd ok
 
 module _ (w : List ℕ) (at : ℕ) where
-  off : (p : ℕ) (ps : List ℕ) → T (plain (p ∷ ps)) → cond (eqb p a) (in_sort Named (byte_at w at)) (eqb p (byte_at w at)) ≡ false → take_sign p w at ≡ Off at
+  off : (p : ℕ) (ps : List ℕ) → T (plain (p ∷ ps)) → cond (eqb p a) (in_sort Named (byte_at w at)) (eqb p (byte_at w at)) ≡ false → take_sign p w at ≡ Err at
   unfolding take_part part_of take_run
   off p ps ok e =
       by_test (eqb p a)
@@ -166,3 +167,35 @@ module _ (w : List ℕ) (at : ℕ) where
       ∙ by_test (eqb 82 b)
       (λ e. ap (λ t. among (also t 15 (1 ∷ []))) e ∙ two one refl)
       (λ e. ap (λ t. among (also t 15 (1 ∷ []))) e ∙ one ∙ sym (calls-none w at (λ z. eqb-false 82 b e (sym z ∙ h))))
+
+  -- as the code goes on
+  pub best_is : best_of w at
+      ≡ cond (in_sort Named (byte_at w at)) (of_calls w at)
+      (cond (eqb (byte_at w at) 33) (ending 17 w (at + 1) 0 0)
+      (cond (eqb (byte_at w at) 35) (of_jumps w (at + 1))
+      (cond (eqb (byte_at w at) 42) (last_sign 14 125 w (at + 1) 0 0)
+      (cond (eqb (byte_at w at) 43) (of_tests 2 8 12 w (at + 1))
+      (cond (eqb (byte_at w at) 45) (of_tests 3 9 13 w (at + 1))
+      (cond (eqb (byte_at w at) 91) (follow 5 (115 ∷ 93 ∷ []) w (at + 1) 0 0)
+      (cond (eqb (byte_at w at) 125) (of_ends w (at + 1))
+      (fit 0 false at 0 0))))))))
+  best_is =
+      let b = byte_at w at in
+      by_test (in_sort Named b)
+      (λ n. rw n (best-calls b refl n))
+      (λ n. by_test (eqb b 33)
+      (λ t. rw (n, t) (best_bang (eqb-true b 33 t)))
+      (λ bang. by_test (eqb b 35)
+      (λ t. rw (n, bang, t) (best-jumps (eqb-true b 35 t)))
+      (λ hash. by_test (eqb b 42)
+      (λ t. rw (n, bang, hash, t) (best_loop_end (eqb-true b 42 t)))
+      (λ star. by_test (eqb b 43)
+      (λ t. rw (n, bang, hash, star, t) (best_plus (eqb-true b 43 t)))
+      (λ plus. by_test (eqb b 45)
+      (λ t. rw (n, bang, hash, star, plus, t) (best_minus (eqb-true b 45 t)))
+      (λ minus. by_test (eqb b 91)
+      (λ t. rw (n, bang, hash, star, plus, minus, t) (best-label (eqb-true b 91 t)))
+      (λ square. by_test (eqb b 125)
+      (λ t. rw (n, bang, hash, star, plus, minus, square, t) (best-ends (eqb-true b 125 t)))
+      (λ bend. rw (n, bang, hash, star, plus, minus, square, bend)
+      (best_none b refl n (eqb-false b 33 bang) (eqb-false b 35 hash) (eqb-false b 42 star) (eqb-false b 43 plus) (eqb-false b 45 minus) (eqb-false b 91 square) (eqb-false b 125 bend))))))))))

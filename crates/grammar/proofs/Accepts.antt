@@ -9,11 +9,10 @@ use lib.Dec.{T}
 use lib.ListN.{length-append}
 use lib.Seq.{get_or-append_seam, get_or-append-add, append_snoc}
 use borrow.Author.Tests.{eq-eqb, ne_eqb, le-leb, eqb-true}
-use Rattle.std.specs.Prelude.{◌+◌, ◌&&◌, ◌||◌, ◌∷◌, ◌++◌}
+use Rattle.std.specs.Prelude.{◌+◌, ◌&&◌, ◌||◌, ◌∷◌, ◌++◌, Ok}
 use Rattle.rules.specs.Words.{ℕ, suc, Bool, true, false, not, List, [], length, eqb}
 use Rattle.text.specs.declared.Sort.{Sort}
 use Rattle.text.specs.declared.Sort.TheVariants.{Blank, Digit, Named}
-use Rattle.text.specs.declared.Took.TheVariants.{On}
 use Rattle.text.specs.Bytes.{byte_at, digit, letter, blank, in_sort, span}
 use Rattle.text.specs.Forms.{signs_of, Part, itself, name, number, part_of, take_run, take_part, take_sign, x_at, y_at, ending, fit, follow, fit_of}
 use Rattle.text.specs.Grammar.{All, Form, done, sign, named, numbered}
@@ -38,7 +37,7 @@ stops-digit b h = by (digit b) h
 
 -- A run of the right length.
 run_there : (c : Sort) (most : ℕ) (pre n z : List ℕ) → All c n → 1 ≤ length n → length n ≤ most → in_sort c (byte_at z 0) ≡ false
-    → take_run c most (pre ++ (n ++ z)) (length pre) ≡ On (length pre + length n)
+    → take_run c most (pre ++ (n ++ z)) (length pre) ≡ Ok (length pre + length n)
 unfolding take_run
 run_there c most pre n z p lo hi h =
     rw (span_exact c pre n z (suc most) p (omega arith) h, ne_eqb (length n) 0 (omega arith), le-leb (length n) most hi)
@@ -47,15 +46,15 @@ module _ (p : ℕ) (pre : List ℕ) where
   as_part : (q : Part) (w : List ℕ) (at : ℕ) → part_of p ≡ q → take_sign p w at ≡ take_part q p w at
   as_part q w at h = ap (λ (r : Part). take_part r p w at) h
 
-  take_sign_lem : (z : List ℕ) → part_of p ≡ itself → take_sign p (pre ++ (p ∷ z)) (length pre) ≡ On (length pre + 1)
+  take_sign_lem : (z : List ℕ) → part_of p ≡ itself → take_sign p (pre ++ (p ∷ z)) (length pre) ≡ Ok (length pre + 1)
   unfolding take_part
   take_sign_lem z h = as_part itself _ _ h ∙ rw (eq-eqb (byte_at (pre ++ (p ∷ z)) (length pre)) p (get_or-append_seam pre p z 0))
 
-  take_name : (n z : List ℕ) → part_of p ≡ name → All Named n → 1 ≤ length n → length n ≤ 16 → Stops z → take_sign p (pre ++ (n ++ z)) (length pre) ≡ On (length pre + length n)
+  take_name : (n z : List ℕ) → part_of p ≡ name → All Named n → 1 ≤ length n → length n ≤ 16 → Stops z → take_sign p (pre ++ (n ++ z)) (length pre) ≡ Ok (length pre + length n)
   unfolding take_part
   take_name n z h al lo hi st = as_part name _ _ h ∙ run_there Named 16 pre n z al lo hi st
 
-  take_number : (n z : List ℕ) → part_of p ≡ number → All Digit n → 1 ≤ length n → length n ≤ 4 → Stops z → take_sign p (pre ++ (n ++ z)) (length pre) ≡ On (length pre + length n)
+  take_number : (n z : List ℕ) → part_of p ≡ number → All Digit n → 1 ≤ length n → length n ≤ 4 → Stops z → take_sign p (pre ++ (n ++ z)) (length pre) ≡ Ok (length pre + length n)
   unfolding take_part
   take_number n z h al lo hi st = as_part number _ _ h ∙ run_there Digit 4 pre n z al lo hi (stops-digit (byte_at z 0) st)
 
@@ -112,7 +111,7 @@ y_in (numbered {p} n e al lo hi f) at y = y_in f (at + length n) (y_at p at y)
 pub record Reached (i : ℕ) (ps w : List ℕ) (from to x y x' y' : ℕ) : Type 0 where
   pub reaches : follow i ps w from x y ≡ ending i w to x' y'
 
-then : {i p : ℕ} {ps w : List ℕ} {from mid to x' y' : ℕ} (x y : ℕ) → take_sign p w from ≡ On mid → Reached i ps w mid to (x_at p from x) (y_at p from y) x' y'
+then : {i p : ℕ} {ps w : List ℕ} {from mid to x' y' : ℕ} (x y : ℕ) → take_sign p w from ≡ Ok mid → Reached i ps w mid to (x_at p from x) (y_at p from y) x' y'
     → Reached i (p ∷ ps) w from to x y x' y'
 unfolding follow
 then x y e r = record { reaches = rw e r.reaches }
@@ -125,7 +124,7 @@ on_sign i p ps u z pre x y x' y' e r =
     let d : length pre + 1 + length u ≡ length pre + suc (length u) = omega arith in
     then x y (take_sign_lem p pre (u ++ z) e) (rw (append_snoc pre p (u ++ z), l, d) at r)
 
-on_run : (i p : ℕ) (ps n u z pre : List ℕ) (x y x' y' : ℕ) → take_sign p (pre ++ (n ++ (u ++ z))) (length pre) ≡ On (length pre + length n)
+on_run : (i p : ℕ) (ps n u z pre : List ℕ) (x y x' y' : ℕ) → take_sign p (pre ++ (n ++ (u ++ z))) (length pre) ≡ Ok (length pre + length n)
     → Reached i ps ((pre ++ n) ++ (u ++ z)) (length (pre ++ n)) (length (pre ++ n) + length u) (x_at p (length pre) x) (y_at p (length pre) y) x' y'
     → Reached i (p ∷ ps) (pre ++ ((n ++ u) ++ z)) (length pre) (length pre + length (n ++ u)) x y x' y'
 on_run i p ps n u z pre x y x' y' e r =

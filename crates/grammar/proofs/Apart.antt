@@ -8,11 +8,9 @@ use native.Mathlib.Nat.{not-suc-le-zero, le_of_suc-le-suc, eq-or-lt_of_le}
 use native.Mathlib.Omega.{arith}
 use lib.Dec.{T}
 use borrow.Author.Tests.{eqb-true, ne_eqb, lt-ltb, le-ltb}
-use Rattle.std.specs.Prelude.{◌+◌, ◌&&◌, ◌||◌, ◌∷◌}
+use Rattle.std.specs.Prelude.{◌+◌, ◌&&◌, ◌||◌, ◌∷◌, Result, Ok, Err}
 use Rattle.rules.specs.Words.{ℕ, zero, suc, Bool, true, false, not, cond, List, [], length, eqb, ltb}
 use Rattle.text.specs.declared.Sort.TheVariants.{Blank, Digit, Named}
-use Rattle.text.specs.declared.Took.{Took}
-use Rattle.text.specs.declared.Took.TheVariants.{On, Off}
 use Rattle.text.specs.declared.Fit.{Fit}
 use Rattle.text.specs.Bytes.{byte_at, blank, digit, letter, in_sort, run, span}
 use Rattle.text.specs.Forms.{signs_of, Part, itself, name, number, part_of, take_run, take_part, take_sign, x_at, y_at, ending, fit, going, follow, fit_of, further, best_to, best_of}
@@ -30,17 +28,17 @@ module _ (p : ℕ) (w : List ℕ) (at : ℕ) where
   begins name b = in_sort Named b
   begins number b = in_sort Digit b
 
-  off_part : (q : Part) → begins q (byte_at w at) ≡ false → take_part q p w at ≡ Off at
+  off_part : (q : Part) → begins q (byte_at w at) ≡ false → take_part q p w at ≡ Err at
   unfolding take_part take_run run
   off_part itself h = rw h
   off_part name h = rw h
   off_part number h = rw h
 
-  off : begins (part_of p) (byte_at w at) ≡ false → take_sign p w at ≡ Off at
+  off : begins (part_of p) (byte_at w at) ≡ false → take_sign p w at ≡ Err at
   off h = off_part (part_of p) h
 
-  on : (e : ℕ) → take_sign p w at ≡ On e → begins (part_of p) (byte_at w at) ≡ true
-  on e h = by_test (begins (part_of p) (byte_at w at)) (λ t. t) (λ f. let z : On e ≡ Off at = sym h ∙ off f in absurd (let y : ◌≡◌ {A = ℕ} 0 1 = cc in omega arith))
+  on : (e : ℕ) → take_sign p w at ≡ Ok e → begins (part_of p) (byte_at w at) ≡ true
+  on e h = by_test (begins (part_of p) (byte_at w at)) (λ t. t) (λ f. let z : Ok e ≡ Err at = sym h ∙ off f in cc)
 
 -- No byte begins both.
 abbrev clash_by : Part → Part → ℕ → ℕ → Bool
@@ -69,7 +67,7 @@ clash_by_lem number name p q b w at c h = absurd c
 clash_by_lem number number p q b w at c h = absurd c
 
 -- Where p is there and q clashes with it, q is not.
-clashes : (p q : ℕ) (w : List ℕ) (at e : ℕ) → T (clash p q) → take_sign p w at ≡ On e → take_sign q w at ≡ Off at
+clashes : (p q : ℕ) (w : List ℕ) (at e : ℕ) → T (clash p q) → take_sign p w at ≡ Ok e → take_sign q w at ≡ Err at
 clashes p q w at e c h = off q w at (clash_by_lem (part_of p) (part_of q) p q (byte_at w at) w at c (on p w at e h))
 
 -- ## Where one form ends and the other does not
@@ -103,14 +101,14 @@ solid_ending i q w at x y d pos e =
     rw (z, ne_eqb (at + 0) (length w) (λ n. omega arith), b, d.no_semi)
 
 -- A form whose first sign is not there stops at once.
-stuck : (j q : ℕ) (qs w : List ℕ) (at x y : ℕ) → take_sign q w at ≡ Off at → (follow j (q ∷ qs) w at x y).far ≡ at
+stuck : (j q : ℕ) (qs w : List ℕ) (at x y : ℕ) → take_sign q w at ≡ Err at → (follow j (q ∷ qs) w at x y).far ≡ at
 unfolding follow
 stuck j q qs w at x y e = rw e
 
 -- The first sign of a whole form is there, and the rest is whole.
 record There (i p : ℕ) (ps w : List ℕ) (at x y : ℕ) : Type 0 where
   e : ℕ
-  is : take_sign p w at ≡ On e
+  is : take_sign p w at ≡ Ok e
   upto : e ≤ length w
   then : (follow i ps w e (x_at p at x) (y_at p at y)).whole ≡ true
 
@@ -118,13 +116,13 @@ there : (i p : ℕ) (ps w : List ℕ) (at x y : ℕ) → 0 < p → at ≤ length
 unfolding follow
 there i p ps w at x y pos le h = by (take_sign p w at) refl (take_reach w at p pos le) h
   where
-    by : (r : Took) → take_sign p w at ≡ r → Reach w at r
+    by : (r : Result ℕ ℕ) → take_sign p w at ≡ r → Reach w at r
         → (going r (λ e. follow i ps w e (x_at p at x) (y_at p at y)) (λ e. fit i false e x y)).whole ≡ true → There i p ps w at x y
-    by (On e) q g h = record { e = e; is = q; upto = g.1; then = h }
-    by (Off e) q g h = never (sym h)
+    by (Ok e) q g h = record { e = e; is = q; upto = g.1; then = h }
+    by (Err e) q g h = never (sym h)
 
 -- One sign in common.
-common : (i j p : ℕ) (ps qs w : List ℕ) (at x y x' y' e : ℕ) → take_sign p w at ≡ On e
+common : (i j p : ℕ) (ps qs w : List ℕ) (at x y x' y' e : ℕ) → take_sign p w at ≡ Ok e
     → (follow j qs w e (x_at p at x') (y_at p at y')).far < (follow i ps w e (x_at p at x) (y_at p at y)).far
     → (follow j (p ∷ qs) w at x' y').far < (follow i (p ∷ ps) w at x y).far
 unfolding follow
@@ -161,7 +159,7 @@ module _ (i j : ℕ) (w : List ℕ) where
   lock [] (q ∷ qs) at x y x' y' c ok ok' le h =
       let d = solid q c in
       let f : eqb (byte_at w at) q ≡ false = ne_eqb (byte_at w at) q (λ e. never (sym h ∙ ap (λ (g : Fit). g.whole) (solid_ending i q w at x y d (above q qs ok') e))) in
-      let o : take_sign q w at ≡ Off at = off q w at (rw d.self f) in
+      let o : take_sign q w at ≡ Err at = off q w at (rw d.self f) in
       let lt : at < (ending i w at x y).far = ending-ahead i w at x y h in
       rw o lt
   lock (p ∷ ps) [] at x y x' y' c ok ok' le h = not_at-end p ps at x y x' y' c ok le h
@@ -181,7 +179,7 @@ module _ (i j : ℕ) (w : List ℕ) where
 -- ## The one pair that is not apart sign by sign: a name, form 1, and R##k, form 15
 
 -- `R#`: the name is R alone.
-run_one : (w : List ℕ) (at : ℕ) → byte_at w at ≡ 82 → byte_at w (suc at) ≡ 35 → take_sign 97 w at ≡ On (at + 1)
+run_one : (w : List ℕ) (at : ℕ) → byte_at w at ≡ 82 → byte_at w (suc at) ≡ 35 → take_sign 97 w at ≡ Ok (at + 1)
 unfolding part_of take_part take_run run in_sort digit letter
 run_one w at e f = rw (e, f)
 
@@ -189,7 +187,7 @@ solid_hash : Solid 35
 unfolding part_of in_sort blank
 solid_hash = record { self = refl; no-blank = refl; no_semi = refl }
 
-take_R : (w : List ℕ) (at : ℕ) → byte_at w at ≡ 82 → take_sign 82 w at ≡ On (at + 1)
+take_R : (w : List ℕ) (at : ℕ) → byte_at w at ≡ 82 → take_sign 82 w at ≡ Ok (at + 1)
 unfolding part_of take_part
 take_R w at e = rw e
 
@@ -198,7 +196,7 @@ unfolding part_of
 self_R = refl
 
 -- The byte under a sign that stands for itself.
-byte_is : (p : ℕ) (w : List ℕ) (at e : ℕ) → part_of p ≡ itself → take_sign p w at ≡ On e → byte_at w at ≡ p
+byte_is : (p : ℕ) (w : List ℕ) (at e : ℕ) → part_of p ≡ itself → take_sign p w at ≡ Ok e → byte_at w at ≡ p
 byte_is p w at e s o = eqb-true (byte_at w at) p (rw s at (on p w at e o))
 
 module _ (w : List ℕ) (at : ℕ) (le : at ≤ length w) where
@@ -209,13 +207,13 @@ module _ (w : List ℕ) (at : ℕ) (le : at ≤ length w) where
   call_first x y x' y' h =
       let o = there 15 82 (35 ∷ 35 ∷ 107 ∷ []) w at x y (omega arith) le h in
       let b : byte_at w at ≡ 82 = byte_is 82 w at o.e self_R o.is in
-      let r : take_sign 82 w at ≡ On (at + 1) = take_R w at b in
+      let r : take_sign 82 w at ≡ Ok (at + 1) = take_R w at b in
       let h' : (follow 15 (35 ∷ 35 ∷ 107 ∷ []) w (at + 1) (x_at 82 at x) (y_at 82 at y)).whole ≡ true = rw r at h in
       let lt : at < length w = byte_there w at (λ z. omega arith) in
       let o' = there 15 35 (35 ∷ 107 ∷ []) w (at + 1) (x_at 82 at x) (y_at 82 at y) (omega arith) (omega arith) h' in
       let b' : byte_at w (at + 1) ≡ 35 = byte_is 35 w (at + 1) o'.e solid_hash.self o'.is in
       let s : at + 1 ≡ suc at = omega arith in
-      let n : take_sign 97 w at ≡ On (at + 1) = run_one w at b (rw s at b') in
+      let n : take_sign 97 w at ≡ Ok (at + 1) = run_one w at b (rw s at b') in
       let f : at + 1 < (follow 15 (35 ∷ 35 ∷ 107 ∷ []) w (at + 1) (x_at 82 at x) (y_at 82 at y)).far = follow-ahead 15 w (35 ∷ 35 ∷ 107 ∷ []) (at + 1) (x_at 82 at x) (y_at 82 at y) tt (omega arith) h' in
       rw (n, r, solid_ending 1 35 w (at + 1) (x_at 97 at x') (y_at 97 at y') solid_hash (omega arith) b') (omega arith)
 
@@ -225,15 +223,15 @@ module _ (w : List ℕ) (at : ℕ) (le : at ≤ length w) where
   unfolding follow
   second_byte x y x' y' h b =
       let o = there 1 97 [] w at x y (omega arith) le h in
-      let g : Reach w at (On o.e) = subst (λ (r : Took). Reach w at r) o.is (take_reach w at 97 (omega arith) le) in
-      let r : take_sign 82 w at ≡ On (at + 1) = take_R w at b in
+      let g : Reach w at (Ok o.e) = subst (λ (r : Result ℕ ℕ). Reach w at r) o.is (take_reach w at 97 (omega arith) le) in
+      let r : take_sign 82 w at ≡ Ok (at + 1) = take_R w at b in
       let s : at + 1 ≡ suc at = omega arith in
       let ne : byte_at w (at + 1) ≡ 35 → ⊥ = λ f.
-      let n : take_sign 97 w at ≡ On (at + 1) = run_one w at b (rw s at f) in
-      let z : On o.e ≡ On (at + 1) = sym o.is ∙ n in
+      let n : take_sign 97 w at ≡ Ok (at + 1) = run_one w at b (rw s at f) in
+      let z : Ok o.e ≡ Ok (at + 1) = sym o.is ∙ n in
       let e : o.e ≡ at + 1 = cc in
       never (sym o.then ∙ ap (λ (q : Fit). q.whole) (solid_ending 1 35 w o.e (x_at 97 at x) (y_at 97 at y) solid_hash (omega arith) (rw e f))) in
-      let f : take_sign 35 w (at + 1) ≡ Off (at + 1) = off 35 w (at + 1) (rw solid_hash.self (ne_eqb (byte_at w (at + 1)) 35 ne)) in
+      let f : take_sign 35 w (at + 1) ≡ Err (at + 1) = off 35 w (at + 1) (rw solid_hash.self (ne_eqb (byte_at w (at + 1)) 35 ne)) in
       let lt : o.e < (ending 1 w o.e (x_at 97 at x) (y_at 97 at y)).far = ending-ahead 1 w o.e (x_at 97 at x) (y_at 97 at y) o.then in
       rw (r, f, o.is) (omega (arith, g.0))
 

@@ -6,11 +6,9 @@ use Prim.Native.Char.{code}
 use native.Mathlib.Omega.{arith}
 use lib.Dec.{T}
 use borrow.Author.Tests.{eqb-false}
-use Rattle.std.specs.Prelude.{◌+◌, ◌&&◌, ◌||◌, ◌∷◌}
+use Rattle.std.specs.Prelude.{◌+◌, ◌&&◌, ◌||◌, ◌∷◌, Result, Ok, Err}
 use Rattle.rules.specs.Words.{ℕ, zero, suc, Bool, true, false, not, List, [], length, get_or, eqb}
 use Rattle.text.specs.declared.Sort.TheVariants.{Blank}
-use Rattle.text.specs.declared.Took.{Took}
-use Rattle.text.specs.declared.Took.TheVariants.{On, Off}
 use Rattle.text.specs.declared.Fit.{Fit}
 use Rattle.text.specs.Bytes.{byte_at, span}
 use Rattle.text.specs.Forms.{forms, signs_of, take_sign, x_at, y_at, fit, ending, going, follow}
@@ -85,18 +83,18 @@ module _ (i : ℕ) (w : List ℕ) where
   follow_from [] at x y ok le = ending_from i w at x y
   follow_from (p ∷ ps) at x y ok le = by (λ e x' y'. follow_from ps e x' y' (rest p ps ok)) (take_sign p w at) (take_reach w at p (above p ps ok) le)
     where
-      by : ((e x' y' : ℕ) → e ≤ length w → e ≤ (follow i ps w e x' y').far) → (r : Took) → Reach w at r
+      by : ((e x' y' : ℕ) → e ≤ length w → e ≤ (follow i ps w e x' y').far) → (r : Result ℕ ℕ) → Reach w at r
           → at ≤ (going r (λ e. follow i ps w e (x_at p at x) (y_at p at y)) (λ e. fit i false e x y)).far
-      by go (On e) h = let z : e ≤ (follow i ps w e (x_at p at x) (y_at p at y)).far = go e (x_at p at x) (y_at p at y) h.1 in omega (arith, h.0)
-      by go (Off e) h = h.0
+      by go (Ok e) h = let z : e ≤ (follow i ps w e (x_at p at x) (y_at p at y)).far = go e (x_at p at x) (y_at p at y) h.1 in omega (arith, h.0)
+      by go (Err e) h = h.0
 
   pub follow-ahead : (ps : List ℕ) (at x y : ℕ) → T (positive ps) → at ≤ length w → (follow i ps w at x y).whole ≡ true → at < (follow i ps w at x y).far
   unfolding follow
   follow-ahead [] at x y ok le h = ending-ahead i w at x y h
   follow-ahead (p ∷ ps) at x y ok le h = by (λ e x' y'. follow-ahead ps e x' y' (rest p ps ok)) (take_sign p w at) (take_reach w at p (above p ps ok) le) h
     where
-      by : ((e x' y' : ℕ) → e ≤ length w → (follow i ps w e x' y').whole ≡ true → e < (follow i ps w e x' y').far) → (r : Took) → Reach w at r
+      by : ((e x' y' : ℕ) → e ≤ length w → (follow i ps w e x' y').whole ≡ true → e < (follow i ps w e x' y').far) → (r : Result ℕ ℕ) → Reach w at r
           → (going r (λ e. follow i ps w e (x_at p at x) (y_at p at y)) (λ e. fit i false e x y)).whole ≡ true
           → at < (going r (λ e. follow i ps w e (x_at p at x) (y_at p at y)) (λ e. fit i false e x y)).far
-      by go (On e) q h = let z : e < (follow i ps w e (x_at p at x) (y_at p at y)).far = go e (x_at p at x) (y_at p at y) q.1 h in omega (arith, q.0)
-      by go (Off e) q h = never (sym h)
+      by go (Ok e) q h = let z : e < (follow i ps w e (x_at p at x) (y_at p at y)).far = go e (x_at p at x) (y_at p at y) q.1 h in omega (arith, q.0)
+      by go (Err e) q h = never (sym h)

@@ -19,7 +19,7 @@ use Rattle.text.specs.Forms.{a, k, s, signs_of, letter_of, fit, best_of}
 use Rattle.text.specs.Names.{name_at, number_at, place_of, action_of, label_of, with_label}
 use Rattle.text.specs.Reading.{Next, made, bad, form_record, settled, known, with_action, with_number, with_label_at, with_second, named, next_of, reads, onwards, read_from, read_text}
 use Rattle.text.specs.Grammar as grammar
-use Rattle.text.specs.Grammar.{All, Form, Some, last, more, blanks, some}
+use Rattle.text.specs.Grammar.{All, Form, Instructions, last, more, blanks, some}
 use Rattle.text.proofs.Tests.{by_test}
 use Rattle.grammar.specs.Promises.{actions_in, labels_in, actions_of, labels_of, AllListed, with_labels, Known, ReadsTexts}
 use Rattle.grammar.proofs.Runs.{run_all}
@@ -69,7 +69,7 @@ known_on p v on h = rw (ne_eqb v 0 h)
 pub known_was : (p v : ℕ) (on : ℕ → Next) {r : Rec} {us : List (List ℕ)} {e : ℕ} → known p v on ≡ made r us e → (v ≡ 0 → ⊥) × (on v ≡ made r us e)
 known_was p v on {r} {us} {e} h =
     by_test (eqb v 0)
-    (λ t. absurd (let z : bad (Name p) ≡ made r us e = rw t at h in let y : ◌≡◌ {A = ℕ} 0 1 = cc in omega arith))
+    (λ t. let z : bad (Name p) ≡ made r us e = rw t at h in cc)
     (λ t. (eqb-false v 0 t, rw t at h))
 
 -- The name at suc q.
@@ -258,7 +258,7 @@ more_reads m es us rs i pre b u c v hi bs f cs k h go =
     goes_on m (pre ++ (b ++ (u ++ (c ++ (code ";" ∷ v))))) es (length pre) us rs n.1 (omega arith)
     (rw (behind pre b u c v, up_to_length pre b u c) at g)
 
-some-reads : (m : ℕ) (es us : List (List ℕ)) (rs : List Rec) {v : List ℕ} (pre : List ℕ) (x : Some v) → length (pre ++ v) < length pre + m
+some-reads : (m : ℕ) (es us : List (List ℕ)) (rs : List Rec) {v : List ℕ} (pre : List ℕ) (x : Instructions v) → length (pre ++ v) < length pre + m
     → AllListed es (actions_of x) → length (with_labels us (labels_of x)) ≤ 999 → Reads m (pre ++ v) es (length pre) us rs
 some-reads zero es us rs {v} pre x l k h = absurd (omega (arith, length-append pre v))
 some-reads (suc m) es us rs pre (last i b u c hi bs f cs) l k h = last_reads m es us rs i pre b u c hi bs f cs k h
@@ -271,7 +271,7 @@ some-reads (suc m) es us rs pre (more i b u c {v} hi bs f cs x) l k h =
 -- ## What is read is a text with known names
 
 abbrev Good : List (List ℕ) → List (List ℕ) → List ℕ → Type 0
-Good es us v = (x : Some v) × AllListed es (actions_of x) × (length (with_labels us (labels_of x)) ≤ 999)
+Good es us v = (x : Instructions v) × AllListed es (actions_of x) × (length (with_labels us (labels_of x)) ≤ 999)
 
 more_good : (es us : List (List ℕ)) (i : ℕ) (b u c v : List ℕ) (hi : i < 17) (bs : All Blank b) (f : Form (signs_of (suc i)) u) (cs : All Blank c)
     → AllListed es (actions_in f) → Good es (with_labels us (labels_in f)) v → Good es us (b ++ (u ++ (c ++ (code ";" ∷ v))))
@@ -337,7 +337,7 @@ module _ (w : List ℕ) (es : List (List ℕ)) where
 
   reads_good : (m at : ℕ) (us : List (List ℕ)) (rs rs' : List Rec) → at ≤ length w → length us ≤ 999 → read_from m w es at us rs ≡ reads rs' → Good es us (drop at w)
   unfolding read_from
-  reads_good zero at us rs rs' h l e = absurd (let y : ◌≡◌ {A = ℕ} 0 1 = cc in omega arith)
+  reads_good zero at us rs rs' h l e = cc
   reads_good (suc m) at us rs rs' h l e = by (next_of w es us at) refl (next_fair w es us at) (λ d vs qs hi k q. reads_good m d vs qs rs' hi k q) e
     where
       by : (x : Next) → next_of w es us at ≡ x → Fair (best_of w (blanked w at)) x
@@ -350,7 +350,7 @@ module _ (w : List ℕ) (es : List (List ℕ)) where
           (λ t. last_good o h (subst (λ (j : ℕ). length w < j) g.1 (ltb-true (length w) d t)) p)
           (λ t. let le : d ≤ length w = ltb-false (length w) d t in
           next_good o h (subst (λ (j : ℕ). j ≤ length w) g.1 le) p (subst (λ (j : ℕ). Good es vs (drop j w)) g.1 (go d vs (rs ++ (r ∷ [])) le p.fewer (rw t at q))))
-      by (bad x) n g go q = absurd (let y : ◌≡◌ {A = ℕ} 0 1 = cc in omega arith)
+      by (bad x) n g go q = cc
 
 -- ## The theorem
 

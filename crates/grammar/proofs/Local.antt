@@ -6,12 +6,10 @@ use native.Mathlib.Nat.{not-suc-le-zero, le_of_suc-le-suc}
 use native.Mathlib.Omega.{arith}
 use lib.Dec.{T}
 use borrow.Author.Tests.{eqb-true, ne_eqb, leb-false, ltb-true, ltb-false}
-use Rattle.std.specs.Prelude.{◌+◌, ◌∷◌}
+use Rattle.std.specs.Prelude.{◌+◌, ◌∷◌, Result, Ok, Err}
 use Rattle.rules.specs.Words.{ℕ, zero, suc, false, List, [], length, eqb, leb, ltb}
 use Rattle.text.specs.declared.Sort.{Sort}
 use Rattle.text.specs.declared.Sort.TheVariants.{Blank, Digit, Named}
-use Rattle.text.specs.declared.Took.{Took}
-use Rattle.text.specs.declared.Took.TheVariants.{On, Off}
 use Rattle.text.specs.Bytes.{byte_at, in_sort, run, span}
 use Rattle.text.specs.Forms.{signs_of, Part, itself, name, number, part_of, take_run, take_part, take_sign, x_at, y_at, ending, fit, going, follow, fit_of, further, best_to}
 use Rattle.text.proofs.Tests.{by_test}
@@ -23,9 +21,9 @@ use Rattle.grammar.proofs.Follows.{positive, forms_positive, above, rest, blanke
 abbrev pub Agree : List ℕ → List ℕ → ℕ → Type 0
 Agree w v n = (i : ℕ) → i < n → byte_at w i ≡ byte_at v i
 
-abbrev stop_of : Took → ℕ
-stop_of (On e) = e
-stop_of (Off e) = e
+abbrev stop_of : Result ℕ ℕ → ℕ
+stop_of (Ok e) = e
+stop_of (Err e) = e
 
 module _ (w v : List ℕ) (n : ℕ) (ag : Agree w v n) where
   -- A run, looking at so many bytes at most.
@@ -97,16 +95,16 @@ module _ (w v : List ℕ) (n : ℕ) (ag : Agree w v n) where
         by (λ e x' y'. follow_local i ps e x' y' (rest p ps ok)) (take_sign p w at) refl (take_reach w at p (above p ps ok) le) h
       where
         by : ((e x' y' : ℕ) → e ≤ length w → (follow i ps w e x' y').far < n → follow i ps v e x' y' ≡ follow i ps w e x' y')
-            → (r : Took) → take_sign p w at ≡ r → Reach w at r
+            → (r : Result ℕ ℕ) → take_sign p w at ≡ r → Reach w at r
             → (going r (λ e. follow i ps w e (x_at p at x) (y_at p at y)) (λ e. fit i false e x y)).far < n
             → going (take_sign p v at) (λ e. follow i ps v e (x_at p at x) (y_at p at y)) (λ e. fit i false e x y)
             ≡ going r (λ e. follow i ps w e (x_at p at x) (y_at p at y)) (λ e. fit i false e x y)
-        by go (On e) q h f =
+        by go (Ok e) q h f =
             let z : e ≤ (follow i ps w e (x_at p at x) (y_at p at y)).far = follow_from i w ps e (x_at p at x) (y_at p at y) (rest p ps ok) h.1 in
-            let tk : take_sign p v at ≡ On e = part_local (part_of p) p at (rw q (omega (arith, h.0))) (rw q (omega arith)) ∙ q in
+            let tk : take_sign p v at ≡ Ok e = part_local (part_of p) p at (rw q (omega (arith, h.0))) (rw q (omega arith)) ∙ q in
             rw tk (go e (x_at p at x) (y_at p at y) h.1 f)
-        by go (Off e) q h f =
-            let tk : take_sign p v at ≡ Off e = part_local (part_of p) p at (rw q h.0) (rw q f) ∙ q in
+        by go (Err e) q h f =
+            let tk : take_sign p v at ≡ Err e = part_local (part_of p) p at (rw q h.0) (rw q f) ∙ q in
             rw tk
 
     pub best_local : (at m : ℕ) → at ≤ length w → (best_to w at m).far < n → best_to v at m ≡ best_to w at m

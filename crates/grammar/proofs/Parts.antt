@@ -9,12 +9,10 @@ use lib.Dec.{T}
 use lib.ListN.{length-append, drop_of_length-le}
 use lib.Seq.{drop-cons}
 use borrow.Author.Tests.{eqb-true, eqb-false, leb-true, leb-false}
-use Rattle.std.specs.Prelude.{◌+◌, ◌||◌, ◌∷◌, ◌++◌}
+use Rattle.std.specs.Prelude.{◌+◌, ◌||◌, ◌∷◌, ◌++◌, Result, Ok, Err}
 use Rattle.rules.specs.Words.{ℕ, zero, suc, Bool, true, false, List, [], length, drop, eqb, leb}
 use Rattle.text.specs.declared.Sort.{Sort}
 use Rattle.text.specs.declared.Sort.TheVariants.{Blank, Digit, Named}
-use Rattle.text.specs.declared.Took.{Took}
-use Rattle.text.specs.declared.Took.TheVariants.{On, Off}
 use Rattle.text.specs.declared.Fit.{Fit}
 use Rattle.text.specs.Bytes.{byte_at, digit, letter, in_sort, run, span}
 use Rattle.text.specs.Forms.{Part, itself, name, number, part_of, take_run, take_part, take_sign, x_at, y_at, ending, fit, going, follow}
@@ -68,29 +66,29 @@ module _ (w : List ℕ) where
     few : span c w at (suc most) ≤ most
     upto : at + span c w at (suc most) ≡ e
 
-  run_on : (c : Sort) (most at e : ℕ) → take_run c most w at ≡ On e → Ran c most at e
+  run_on : (c : Sort) (most at e : ℕ) → take_run c most w at ≡ Ok e → Ran c most at e
   unfolding take_run
   run_on c most at e h =
       let n = span c w at (suc most) in
       by_test (eqb n 0)
-      (λ t. absurd (let q : Off at ≡ On e = rw t at h in let z : ◌≡◌ {A = ℕ} 0 1 = cc in omega arith))
+      (λ t. let q : Err at ≡ Ok e = rw t at h in cc)
       (λ t. by_test (leb n most)
-      (λ l. let q : On (at + n) ≡ On e = rw (t, l) at h in record { some = omega (arith, eqb-false n 0 t); few = leb-true n most l; upto = cc })
-      (λ l. absurd (let q : Off (at + most) ≡ On e = rw (t, l) at h in let z : ◌≡◌ {A = ℕ} 0 1 = cc in omega arith)))
+      (λ l. let q : Ok (at + n) ≡ Ok e = rw (t, l) at h in record { some = omega (arith, eqb-false n 0 t); few = leb-true n most l; upto = cc })
+      (λ l. let q : Err (at + most) ≡ Ok e = rw (t, l) at h in cc))
 
   -- A sign that is there: its bytes may stand for it before any that stand for the rest.
   record Stood (p at e : ℕ) : Type 0 where
     piece : Piece at e
     before : {ps u : List ℕ} → Form ps u → Form (p ∷ ps) (piece.bytes ++ u)
 
-  part_on : (q : Part) (p at e : ℕ) → part_of p ≡ q → 0 < p → take_part q p w at ≡ On e → Stood p at e
+  part_on : (q : Part) (p at e : ℕ) → part_of p ≡ q → 0 < p → take_part q p w at ≡ Ok e → Stood p at e
   unfolding take_part
   part_on itself p at e s pos h =
       by_test (eqb (byte_at w at) p)
-      (λ t. let q : On (at + 1) ≡ On e = rw t at h in
+      (λ t. let q : Ok (at + 1) ≡ Ok e = rw t at h in
       let k : at + 1 ≡ e = cc in
       subst (Stood p at) k (record { piece = byte_piece p at pos (eqb-true (byte_at w at) p t); before = λ f. sign s f }))
-      (λ t. absurd (let q : Off at ≡ On e = rw t at h in let z : ◌≡◌ {A = ℕ} 0 1 = cc in omega arith))
+      (λ t. let q : Err at ≡ Ok e = rw t at h in cc)
   part_on name p at e s pos h =
       let r = run_on Named 16 at e h in
       subst (Stood p at) r.upto (record { piece = run_piece Named at 17; before = λ f. named (run Named w at 17) s (run_all Named w at 17) r.some r.few f })
@@ -157,11 +155,11 @@ module _ (w : List ℕ) where
       by (λ e x' y'. shown i ps e x' y' (rest p ps ok)) (take_sign p w at) (take_reach w at p (above p ps ok) le) (λ e q. part_on (part_of p) p at e refl (above p ps ok) q) refl h
     where
       by : ((e x' y' : ℕ) → e ≤ length w → (follow i ps w e x' y').whole ≡ true → Shown ps e (follow i ps w e x' y').far)
-          → (r : Took) → Reach w at r → ((e : ℕ) → take_sign p w at ≡ On e → Stood p at e) → take_sign p w at ≡ r
+          → (r : Result ℕ ℕ) → Reach w at r → ((e : ℕ) → take_sign p w at ≡ Ok e → Stood p at e) → take_sign p w at ≡ r
           → (going r (λ e. follow i ps w e (x_at p at x) (y_at p at y)) (λ e. fit i false e x y)).whole ≡ true
           → Shown (p ∷ ps) at (going r (λ e. follow i ps w e (x_at p at x) (y_at p at y)) (λ e. fit i false e x y)).far
-      by go (On e) q s t h = sign_shown (s e t) (go e (x_at p at x) (y_at p at y) q.1 h)
-      by go (Off e) q s t h = never (sym h)
+      by go (Ok e) q s t h = sign_shown (s e t) (go e (x_at p at x) (y_at p at y) q.1 h)
+      by go (Err e) q s t h = never (sym h)
 
   -- ## A form that is stuck
 
@@ -203,15 +201,15 @@ module _ (w : List ℕ) where
     upto : at + span c w at most ≡ e
 
   -- It is stuck at once, or behind as many bytes as it may have.
-  run_off : (P : ℕ → Type 0) (c : Sort) (most at e : ℕ) → take_run c most w at ≡ Off e → P at → (Full c most at e → P e) → P e
+  run_off : (P : ℕ → Type 0) (c : Sort) (most at e : ℕ) → take_run c most w at ≡ Err e → P at → (Full c most at e → P e) → P e
   unfolding take_run
   run_off P c most at e h here full =
       let n = span c w at (suc most) in
       by_test (eqb n 0)
-      (λ t. let q : Off at ≡ Off e = rw t at h in let k : at ≡ e = cc in subst P k here)
+      (λ t. let q : Err at ≡ Err e = rw t at h in let k : at ≡ e = cc in subst P k here)
       (λ t. by_test (leb n most)
-      (λ l. absurd (let q : On (at + n) ≡ Off e = rw (t, l) at h in let z : ◌≡◌ {A = ℕ} 0 1 = cc in omega arith))
-      (λ l. let q : Off (at + most) ≡ Off e = rw (t, l) at h in
+      (λ l. let q : Ok (at + n) ≡ Err e = rw (t, l) at h in cc)
+      (λ l. let q : Err (at + most) ≡ Err e = rw (t, l) at h in
       let k : at + most ≡ e = cc in
       let f : span c w at most ≡ most = span-full c at most (leb-false n most l) in
       full (record { exact = f; upto = omega arith })))
@@ -223,12 +221,12 @@ module _ (w : List ℕ) where
       subst (Begun (p ∷ ps) at) f.upto
       (record { piece = run_piece c at most; v = r.0; u = run c w at most ++ r.0; c = []; form = form r.0 r.1; blanks = tt; made = sym (append-nil (run c w at most ++ r.0)) })
 
-  part_off : (q : Part) (p : ℕ) (ps : List ℕ) (at e : ℕ) → part_of p ≡ q → take_part q p w at ≡ Off e → Begun (p ∷ ps) at e
+  part_off : (q : Part) (p : ℕ) (ps : List ℕ) (at e : ℕ) → part_of p ≡ q → take_part q p w at ≡ Err e → Begun (p ∷ ps) at e
   unfolding take_part
   part_off itself p ps at e s h =
       by_test (eqb (byte_at w at) p)
-      (λ t. absurd (let q : On (at + 1) ≡ Off e = rw t at h in let z : ◌≡◌ {A = ℕ} 0 1 = cc in omega arith))
-      (λ t. let q : Off at ≡ Off e = rw t at h in let k : at ≡ e = cc in subst (Begun (p ∷ ps) at) k (begun_here (p ∷ ps) at))
+      (λ t. let q : Ok (at + 1) ≡ Err e = rw t at h in cc)
+      (λ t. let q : Err at ≡ Err e = rw t at h in let k : at ≡ e = cc in subst (Begun (p ∷ ps) at) k (begun_here (p ∷ ps) at))
   part_off name p ps at e s h = run_off (Begun (p ∷ ps) at) Named 16 at e h (begun_here (p ∷ ps) at)
       (λ f. let x = f.exact in begun_run p ps Named 16 at e f (λ us g. named (run Named w at 16) s (run_all Named w at 16) (omega arith) (omega arith) g))
   part_off number p ps at e s h = run_off (Begun (p ∷ ps) at) Digit 4 at e h (begun_here (p ∷ ps) at)
@@ -260,8 +258,8 @@ module _ (w : List ℕ) where
       (λ e q. part_on (part_of p) p at e refl (above p ps ok) q) (λ e q. part_off (part_of p) p ps at e refl q) refl h
     where
       by : ((e x' y' : ℕ) → e ≤ length w → (follow i ps w e x' y').whole ≡ false → Begun ps e (follow i ps w e x' y').far)
-          → (r : Took) → Reach w at r → ((e : ℕ) → take_sign p w at ≡ On e → Stood p at e) → ((e : ℕ) → take_sign p w at ≡ Off e → Begun (p ∷ ps) at e) → take_sign p w at ≡ r
+          → (r : Result ℕ ℕ) → Reach w at r → ((e : ℕ) → take_sign p w at ≡ Ok e → Stood p at e) → ((e : ℕ) → take_sign p w at ≡ Err e → Begun (p ∷ ps) at e) → take_sign p w at ≡ r
           → (going r (λ e. follow i ps w e (x_at p at x) (y_at p at y)) (λ e. fit i false e x y)).whole ≡ false
           → Begun (p ∷ ps) at (going r (λ e. follow i ps w e (x_at p at x) (y_at p at y)) (λ e. fit i false e x y)).far
-      by go (On e) q s o t h = sign_begun (s e t) (go e (x_at p at x) (y_at p at y) q.1 h)
-      by go (Off e) q s o t h = o e t
+      by go (Ok e) q s o t h = sign_begun (s e t) (go e (x_at p at x) (y_at p at y) q.1 h)
+      by go (Err e) q s o t h = o e t

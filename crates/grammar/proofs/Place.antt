@@ -17,7 +17,7 @@ use Rattle.text.specs.Bytes.{run, span}
 use Rattle.text.specs.Forms.{signs_of, best_of}
 use Rattle.text.specs.Reading.{reads, refused, read_text}
 use Rattle.text.specs.Grammar as grammar
-use Rattle.text.specs.Grammar.{All, Form, Some, last, more, blanks, some, Start}
+use Rattle.text.specs.Grammar.{All, Form, Instructions, last, more, blanks, some, Start}
 use Rattle.text.proofs.Tests.{by_test, never}
 use Rattle.grammar.specs.Promises.{Placed}
 use Rattle.grammar.proofs.Runs.{span_all, run_all}
@@ -101,7 +101,7 @@ more_next i pre b u c v p hi bs f cs q =
     let g = goes_on i pre b u c (code ";" ∷ v) hi bs f cs (semi v) q in
     rw (behind pre b u c v, up_to_length pre b u c) g.1
 
-some_not : {v : List ℕ} (pre : List ℕ) (p : ℕ) → Some v → Stuck (pre ++ v) (length pre) p → ⊥
+some_not : {v : List ℕ} (pre : List ℕ) (p : ℕ) → Instructions v → Stuck (pre ++ v) (length pre) p → ⊥
 some_not pre p (last i b u c hi bs f cs) q = last_not i pre b u c p hi bs f cs q
 some_not pre p (more i b u c {v} hi bs f cs m) q = some_not (pre ++ up_to b u c) p m (more_next i pre b u c v p hi bs f cs q)
 
@@ -118,7 +118,7 @@ blank-end b p bs (later t l q) = let r = seen b (blanked b 0) (blanked_in b 0 (o
 module _ (w : List ℕ) where
   -- The bytes before `at` may stand before any instructions.
   abbrev Before : ℕ → Type 0
-  Before at = (v : List ℕ) → Some v → Some (take at w ++ v)
+  Before at = (v : List ℕ) → Instructions v → Instructions (take at w ++ v)
 
   take_piece : {at e : ℕ} → at ≤ length w → (q : Piece w at e) → take e w ≡ take at w ++ q.bytes
   take_piece {at} {e} h q =
@@ -153,7 +153,7 @@ module _ (w : List ℕ) where
       let j = joined w (run_piece w Blank at (length w)) q.0 in
       let e : take far w ++ v ≡ take at w ++ (b ++ (r.u ++ (r.c ++ (code ";" ∷ v)))) =
       ap (λ (y : List ℕ). y ++ v) (take_piece h j ∙ ap (λ (y : List ℕ). take at w ++ (b ++ y)) q.1) ∙ behind (take at w) b r.u r.c v in
-      subst Some (sym e) (bf (b ++ (r.u ++ (r.c ++ (code ";" ∷ v)))) (more i b r.u r.c hi (run_all Blank w at (length w)) r.form r.blanks m))
+      subst Instructions (sym e) (bf (b ++ (r.u ++ (r.c ++ (code ";" ∷ v)))) (more i b r.u r.c hi (run_all Blank w at (length w)) r.form r.blanks m))
 
   starts_some : {at p : ℕ} → at ≤ length w → Before at → Stuck w at p → Start (take (p - 1) w)
   starts_some {at} {p} h bf (here t e) =
@@ -165,7 +165,7 @@ module _ (w : List ℕ) where
       let x : take (p - 1) w ++ g.v ≡ take at w ++ (b ++ (g.u ++ g.c)) =
       ap (λ (m : ℕ). take m w ++ g.v) k ∙ ap (λ (y : List ℕ). y ++ g.v) (take_piece h j) ∙ append_assoc (take at w) (b ++ g.piece.bytes) g.v
       ∙ ap (λ (y : List ℕ). take at w ++ y) (append_assoc b g.piece.bytes g.v ∙ ap (λ (y : List ℕ). b ++ y) g.made) in
-      (g.v, some (subst Some (sym x) (bf (b ++ (g.u ++ g.c)) (last r.number b g.u g.c r.listed (run_all Blank w at (length w)) g.form g.blanks))))
+      (g.v, some (subst Instructions (sym x) (bf (b ++ (g.u ++ g.c)) (last r.number b g.u g.c r.listed (run_all Blank w at (length w)) g.form g.blanks))))
   starts_some {at} {p} h bf (later t l q) =
       let r = seen w (blanked w at) (blanked_in w at h) t in
       starts_some l (before-next h bf r.number r.listed l r.shows) q
@@ -200,7 +200,7 @@ pub placed : Placed
 unfolding read_text
 placed w es p e =
     by_test (eqb (span Blank w 0 (length w)) (length w))
-    (λ t. absurd (let z : reads [] ≡ refused (Text p) = rw t at e in let y : ◌≡◌ {A = ℕ} 0 1 = cc in omega arith))
+    (λ t. let z : reads [] ≡ refused (Text p) = rw t at e in cc)
     (λ t. let q : Stuck w 0 p = refused-stuck w (length w + 1) es 0 p [] [] (omega arith) (omega arith) (rw t at e) in
     record {
       from_one = stuck_behind w (omega arith) q;

@@ -41,9 +41,9 @@ pub literal : (p : ℕ) → part_of p ≡ itself → Literal p
 unfolding part_of
 literal p h =
     by_test (eqb p k)
-    (λ e. absurd (let q : number ≡ itself = rw e at h in let y : ◌≡◌ {A = ℕ} 0 1 = cc in omega arith))
+    (λ e. let q : number ≡ itself = rw e at h in cc)
     (λ e. by_test (eqb p a || eqb p s || eqb p t)
-    (λ f. absurd (let q : name ≡ itself = rw (e, f) at h in let y : ◌≡◌ {A = ℕ} 0 1 = cc in omega arith))
+    (λ f. let q : name ≡ itself = rw (e, f) at h in cc)
     (λ f. by e f))
   where
     by : eqb p k ≡ false → (eqb p a || eqb p s || eqb p t) ≡ false → Literal p
@@ -67,8 +67,8 @@ unfolding part_of
 is_number p h =
     by_test (eqb p k) (eqb-true p k)
     (λ e. by_test (eqb p a || eqb p s || eqb p t)
-    (λ f. absurd (let q : name ≡ number = rw (e, f) at h in let y : ◌≡◌ {A = ℕ} 0 1 = cc in omega arith))
-    (λ f. absurd (let q : itself ≡ number = rw (e, f) at h in let y : ◌≡◌ {A = ℕ} 0 1 = cc in omega arith)))
+    (λ f. let q : name ≡ number = rw (e, f) at h in cc)
+    (λ f. let q : itself ≡ number = rw (e, f) at h in cc))
 
 -- ## The shapes of forms
 

@@ -104,10 +104,10 @@ module _ (w : List ℕ) where
           → onwards x (λ r us' e. cond (ltb (length w) e) (reads (rs ++ (r ∷ []))) (read_from m w es e us' (rs ++ (r ∷ [])))) ≡ refused (Text p) → Stuck w at p
       by (made r us' e) g go q =
           by_test (ltb (length w) e)
-          (λ t. absurd (let z : reads (rs ++ (r ∷ [])) ≡ refused (Text p) = rw t at q in let y : ◌≡◌ {A = ℕ} 0 1 = cc in omega arith))
+          (λ t. let z : reads (rs ++ (r ∷ [])) ≡ refused (Text p) = rw t at q in cc)
           (λ t. let le : e ≤ length w = ltb-false (length w) e t in
           let n : at < e = omega (arith, ahead at h g.0, g.1) in
           later g.0 (omega (arith, g.1)) (subst (λ (j : ℕ). Stuck w j p) g.1 (go e us' (rs ++ (r ∷ [])) n le (rw t at q))))
       by (bad (Text x)) g go q = let z : x ≡ p = cc in here g.0 (sym z ∙ g.1)
-      by (bad (Name x)) g go q = absurd (let y : ◌≡◌ {A = ℕ} 0 1 = cc in omega arith)
+      by (bad (Name x)) g go q = cc
       by (bad (Earlier x)) g go q = absurd g

@@ -7,7 +7,7 @@ use Rattle.text.specs.Forms.{a}
 use Rattle.text.specs.Names.{action_of, with_label}
 use Rattle.text.specs.Reading.{reads, refused, read_text}
 use Rattle.text.specs.Grammar as grammar
-use Rattle.text.specs.Grammar.{Form, done, sign, named, numbered, Some, last, more, blanks, some, Start}
+use Rattle.text.specs.Grammar.{Form, done, sign, named, numbered, Instructions, last, more, blanks, some, Start}
 
 -- ## The place of refusal 12 (proofs/Place)
 
@@ -38,11 +38,11 @@ labels_in (sign e f) = labels_in f
 labels_in (named {p} n e al lo hi f) = cond (eqb p a) (labels_in f) (n ∷ labels_in f)
 labels_in (numbered n e al lo hi f) = labels_in f
 
-abbrev pub actions_of : {v : List ℕ} → Some v → List (List ℕ)
+abbrev pub actions_of : {v : List ℕ} → Instructions v → List (List ℕ)
 actions_of (last i b u c h bs f cs) = actions_in f
 actions_of (more i b u c h bs f cs m) = actions_in f ++ actions_of m
 
-abbrev pub labels_of : {v : List ℕ} → Some v → List (List ℕ)
+abbrev pub labels_of : {v : List ℕ} → Instructions v → List (List ℕ)
 labels_of (last i b u c h bs f cs) = labels_in f
 labels_of (more i b u c h bs f cs m) = labels_in f ++ labels_of m
 

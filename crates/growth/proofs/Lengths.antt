@@ -1,13 +1,14 @@
 -- The places added in the base, over the bytes of a routine: what the table's row of each record's kind says.
---     skip-none, skip-found, skip_passed     refusal 6, one record at a time
---     sum_row, sum_none, sum_out, base_bound     the converted length, one record at a time, and its bound
+--     row_adds, row_read     what the row of a kind says that it adds, and how the row is found
+--     skips_from, skips_start, skips_out, no_test, next_adds_not, next_adds     refusal 6, one record at a time
+--     sum_next, sum_out, base_none, base_is, base_starts, base_bound     the converted length, one record at a time, and its bound
 use mathlib.Core.Path.{◌≡◌, refl, sym, ap, ◌∙◌}
-use Prim.Native.Nat.{ℕ, suc, ◌+◌, ◌*◌, ◌≤◌, ◌<◌}
-use native.Mathlib.Nat.{add-zero, mul-le-mul}
+use Prim.Native.Nat.{ℕ, suc, ◌+◌, ◌-◌, ◌*◌, ◌≤◌, ◌<◌}
+use native.Mathlib.Nat.{add-zero, mul-le-mul, mul-le-mul_left}
 use native.Mathlib.Numerals.{add-one}
 use native.Mathlib.Omega.{arith}
 use mathlib.Core.Bool.{Bool, true, false, not, cond, ◌&&◌, ◌||◌, and-false}
-use mathlib.Core.Option.{Option, none, some}
+use Rattle.std.specs.Prelude.{Option, None, Some}
 use mathlib.Core.List.{List, [], ◌∷◌}
 use lib.ListN.{length, drop, get_or, get_or-map}
 use lib.Dec.{eqb, leb}
@@ -15,8 +16,8 @@ use borrow.Author.Tests.{eq-eqb, ne_eqb, le-leb, lt-leb, leb-true, leb-false}
 use Rattle.rules.specs.declared.Row.{Row}
 use Rattle.rules.specs.declared.Notation.TheVariants.{Routine}
 use Rattle.rules.specs.Record.{Rec, count}
+use Rattle.rules.specs.Numbers.{found}
 use Rattle.rules.specs.Table.{row_of}
-use Rattle.rules.specs.Checks.{listed}
 use Rattle.rules.specs.Instruction.{Op, jump, act_of, written, decode, encode, ops}
 use Rattle.rules.specs.Skip.{added_by, added, adding, plain_test, skip_from, skip, added_all, converted_length}
 use Rattle.laws.proofs.Records.{record_at, ops-length, ops-drop, ops-end}
@@ -24,18 +25,41 @@ use Rattle.laws.proofs.Instructions.{tabulated}
 use Rattle.laws.proofs.Length.{once_of, return_of, added-kind, ones, returns, converted_counts, added_here}
 use Rattle.growth.specs.Length.{test_kind, base_length}
 
+-- ## What a kind adds
+
+bounded : (t : Bool) (x : ℕ) → x ≤ 1 → cond t 1 x ≤ 1
+bounded true x h = omega arith
+bounded false x h = h
+
+once_small : (k : ℕ) → once_of k ≤ 1
+unfolding once_of
+once_small k = bounded (eqb k 8) _ (bounded (eqb k 9) _ (bounded (eqb k 12) _ (bounded (eqb k 13) _ (bounded (eqb k 15) 0 (omega arith)))))
+
+return-small : (k : ℕ) → return_of k ≤ 1
+unfolding return_of
+return-small k = bounded (eqb k 16) 0 (omega arith)
+
+added_small : (n k : ℕ) → added_by n (row_of Routine k) ≤ 6 * n + 1
+added_small n k = omega (arith, added-kind n k, once_small k, mul-le-mul_left (6 * n) (return-small k))
+
+-- A kind without a row adds nothing; of any other the row says it, and the sum is small.
+pub no_row : (n : ℕ) → added_by n None ≡ 0
+unfolding added_by
+no_row n = refl
+
+pub row_adds : (row : Row) (n : ℕ) → row.once + row.each * n ≡ added_by n (Some row)
+unfolding added_by
+row_adds row n = refl
+
+pub row_small : (row : Row) (k n : ℕ) → row_of Routine k ≡ Some row → row.once + row.each * n ≤ 6 * n + 1
+unfolding added_by
+row_small row k n e = omega (arith, added_small n k, ap (added_by n) e)
+
+pub ruleset row_read = (no_row, row_adds, row_small)
+
 -- The row of the kind of the record after the first k, and what it adds.
 abbrev row_at : List ℕ → ℕ → Option Row
 row_at s k = row_of Routine (get_or s (8 * k) 0)
-
-unlisted : (n : ℕ) (w : Option Row) → listed w ≡ false → added_by n w ≡ 0
-unfolding listed added_by
-unlisted n none e = refl
-unlisted n (some w) e = absurd (let z : ◌≡◌ {A = ℕ} 0 1 = cc in omega arith)
-
-row_adds : (n : ℕ) {w : Row} {o : Option Row} → o ≡ some w → added_by n o ≡ w.once + w.each * n
-unfolding added_by
-row_adds n e = rw e
 
 module _ (s : List ℕ) (k : ℕ) (h : k < count s) where
   sum_here : (n : ℕ) → added_all n (drop k (ops s)) ≡ added_by n (row_at s k) + added_all n (drop (k + 1) (ops s))
@@ -58,52 +82,53 @@ adding-row s k h =
     let e : added 1 (decode (record_at s k)) ≡ added_by 1 (row_at s k) = omega (arith, added-kind 1 (get_or s (8 * k) 0), added_here s k h 1, ap (added_all 1) (ops-drop s k h)) in
     ap (λ (a : ℕ). not (eqb a 0)) e
 
--- The lowest test before an adding kind, from record k + 1 on.
-abbrev pub skips_from : List ℕ → ℕ → ℕ
-skips_from s k = skip_from (suc k) (drop k (ops s))
-
-pub skips_start : (s : List ℕ) → skip (ops s) ≡ skips_from s 0
-unfolding skip
-skips_start s = refl
-
 skip_pair : (i : ℕ) (o p : Op) (os ps : List Op) → ps ≡ p ∷ os → skip_from i (o ∷ ps) ≡ cond (plain_test o && adding p) i (skip_from (suc i) ps)
 unfolding skip_from
 skip_pair i o p os ps e = rw e
 
-module _ (s : List ℕ) (k : ℕ) where
-  module _ (h : k + 1 < count s) where
-    skips_here : skips_from s k ≡ cond (test_kind (get_or s (8 * k) 0) && not (eqb (added_by 1 (row_at s (k + 1))) 0)) (k + 1) (skips_from s (k + 1))
-    skips_here =
-        let l : suc k < count s = omega arith in
-        ap (skip_from (suc k)) (ops-drop s k (omega arith))
-        ∙ skip_pair (suc k) (decode (record_at s k)) (decode (record_at s (suc k))) _ _ (ops-drop s (suc k) l)
-        ∙ rw (test_kind_lem (record_at s k), adding-row s (suc k) l)
-        (ap (λ (j : ℕ). cond (test_kind (get_or s (8 * k) 0) && not (eqb (added_by 1 (row_at s j)) 0)) j (skips_from s j)) (sym (add-one k)))
+-- The lowest test before an adding kind, from record number k on.
+abbrev pub skips_from : List ℕ → ℕ → ℕ
+skips_from s k = skip_from k (drop (k - 1) (ops s))
 
-    pub no_test : test_kind (get_or s (8 * k) 0) ≡ false → skips_from s k ≡ skips_from s (k + 1)
+pub skips_start : (s : List ℕ) → skip (ops s) ≡ skips_from s 1
+unfolding skip
+skips_start s = refl
+
+module _ (s : List ℕ) (k : ℕ) (l : 1 ≤ k) where
+  module _ (h : k < count s) where
+    skips_here : skips_from s k ≡ cond (test_kind (get_or s (8 * (k - 1)) 0) && not (eqb (added_by 1 (row_at s k)) 0)) k (skips_from s (k + 1))
+    skips_here =
+        let e : suc (k - 1) ≡ k = omega arith in
+        let j : suc k ≡ k + 1 = omega arith in
+        let i : k ≡ k + 1 - 1 = omega arith in
+        ap (skip_from k) (ops-drop s (k - 1) (omega arith))
+        ∙ ap (λ (i : ℕ). skip_from k (decode (record_at s (k - 1)) ∷ drop i (ops s))) e
+        ∙ skip_pair k (decode (record_at s (k - 1))) (decode (record_at s k)) _ _ (ops-drop s k h)
+        ∙ rw (test_kind_lem (record_at s (k - 1)), adding-row s k h, j)
+        (ap (λ (i : ℕ). cond (test_kind (get_or s (8 * (k - 1)) 0) && not (eqb (added_by 1 (row_at s k)) 0)) k (skip_from (k + 1) (drop i (ops s)))) i)
+
+    pub no_test : test_kind (get_or s (8 * (k - 1)) 0) ≡ false → skips_from s k ≡ skips_from s (k + 1)
     no_test e = skips_here ∙ rw e
 
-    -- The next record adds no places, or some.
-    skip_passed : added_by 1 (row_at s (k + 1)) ≡ 0 → skips_from s k ≡ skips_from s (k + 1)
-    skip_passed e = skips_here ∙ rw (eq-eqb _ 0 e, and-false)
+    pub next_adds_not : added_by 1 (row_at s k) ≡ 0 → skips_from s k ≡ skips_from s (k + 1)
+    next_adds_not e = skips_here ∙ rw (eq-eqb _ 0 e, and-false)
 
-    pub next-unlisted : listed (row_at s (k + 1)) ≡ false → skips_from s k ≡ skips_from s (k + 1)
-    next-unlisted e = skip_passed (unlisted 1 (row_at s (k + 1)) e)
+    pub next_adds : test_kind (get_or s (8 * (k - 1)) 0) ≡ true → ¬ (added_by 1 (row_at s k) ≡ 0) → found (skips_from s k) ≡ Some k
+    next_adds t z =
+        let e : suc (k - 1) ≡ k = omega arith in
+        ap found (skips_here ∙ rw (t, ne_eqb _ 0 z)) ∙ ap found (sym e) ∙ ap Some e
 
-    module _ {w : Row} (e : row_at s (k + 1) ≡ some w) where
-      pub next_adds_not : w.once + w.each ≡ 0 → skips_from s k ≡ skips_from s (k + 1)
-      next_adds_not z = skip_passed (row_adds 1 e ∙ omega arith)
-
-      pub next_adds : test_kind (get_or s (8 * k) 0) ≡ true → ¬ (w.once + w.each ≡ 0) → skips_from s k ≡ k + 1
-      next_adds t z = skips_here ∙ rw (t, row_adds 1 e, ne_eqb (w.once + w.each * 1) 0 (λ y. z (omega arith)))
-
-  pub skips_out : count s ≤ k + 1 → skips_from s k ≡ 0
+  pub skips_out : count s ≤ k → found (skips_from s k) ≡ None
   unfolding skip_from
-  skips_out h = by (leb (count s) k) refl
+  skips_out h = by (leb (count s) (k - 1)) refl
     where
-      by : (t : Bool) → leb (count s) k ≡ t → skips_from s k ≡ 0
-      by true e = ap (skip_from (suc k)) (ops-end s k (leb-true (count s) k e))
-      by false e = ap (skip_from (suc k)) (ops-drop s k (leb-false (count s) k e) ∙ ap (λ (os : List Op). decode (record_at s k) ∷ os) (ops-end s (suc k) (omega arith)))
+      by : (t : Bool) → leb (count s) (k - 1) ≡ t → found (skips_from s k) ≡ None
+      by true e = ap (λ (os : List Op). found (skip_from k os)) (ops-end s (k - 1) (leb-true (count s) (k - 1) e))
+      by false e =
+          ap (λ (os : List Op). found (skip_from k os))
+          (ops-drop s (k - 1) (leb-false (count s) (k - 1) e) ∙ ap (λ (os : List Op). decode (record_at s (k - 1)) ∷ os) (ops-end s (suc (k - 1)) (omega arith)))
+
+pub ruleset skips_read = (skips_start, skips_out, no_test, next_adds_not)
 
 -- ## The converted length
 
@@ -112,11 +137,8 @@ module _ (s : List ℕ) where
   abbrev pub added_from : ℕ → ℕ
   added_from k = added_all (count s) (drop k (ops s))
 
-  pub sum_row : (k : ℕ) → k < count s → {w : Row} → row_at s k ≡ some w → added_from k ≡ w.once + w.each * count s + added_from (k + 1)
-  sum_row k h e = sum_here s k h (count s) ∙ rw (row_adds (count s) e)
-
-  pub sum_none : (k : ℕ) → k < count s → listed (row_at s k) ≡ false → added_from k ≡ added_from (k + 1)
-  sum_none k h e = omega (arith, sum_here s k h (count s), unlisted (count s) (row_at s k) e)
+  pub sum_next : (k : ℕ) → k < count s → added_from k ≡ added_by (count s) (row_at s k) + added_from (k + 1)
+  sum_next k h = sum_here s k h (count s)
 
   pub sum_out : (k : ℕ) → count s ≤ k → added_from k ≡ 0
   unfolding added_all
@@ -134,20 +156,6 @@ module _ (s : List ℕ) where
   unfolding converted_length
   base_starts h = base_is h ∙ rw ops-length
 
--- ## Bounds
-
-bounded : (t : Bool) (x : ℕ) → x ≤ 1 → cond t 1 x ≤ 1
-bounded true x h = omega arith
-bounded false x h = h
-
-once_small : (k : ℕ) → once_of k ≤ 1
-unfolding once_of
-once_small k = bounded (eqb k 8) _ (bounded (eqb k 9) _ (bounded (eqb k 12) _ (bounded (eqb k 13) _ (bounded (eqb k 15) 0 (omega arith)))))
-
-return-small : (k : ℕ) → return_of k ≤ 1
-unfolding return_of
-return-small k = bounded (eqb k 16) 0 (omega arith)
-
 counts_small : (L : List Op) → (ones L ≤ length L) × (returns L ≤ length L)
 unfolding ones returns
 counts_small [] = (omega arith, omega arith)
@@ -162,5 +170,4 @@ base_bound s h =
     let m : returns (ops s) * length (ops s) ≤ 512 * 512 = mul-le-mul r n in
     omega (arith, base_is s h, converted_counts (ops s), c.0)
 
-pub row_small : (k : ℕ) {w : Row} → row_of Routine k ≡ some w → w.once + w.each ≤ 7
-row_small k e = omega (arith, row_adds 1 e, added-kind 1 k, once_small k, return-small k)
+pub ruleset sums_read = (sum_next, sum_out, base_none, base_starts, base_bound)

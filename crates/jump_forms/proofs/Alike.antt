@@ -3,6 +3,7 @@
 --     past                      a name that starts is followed past its first byte
 --     calls-none, calls_name     no `R`, or no `#` behind it
 --     calls_off, calls_on        one `#`, or two
+--     jumps_are, calls_are       all of them
 use mathlib.Core.Path.{◌≡◌, refl, sym, ap, ◌∙◌}
 use mathlib.Core.Bool.{true, false, cond}
 use mathlib.Core.List.{List, [], ◌∷◌}
@@ -11,13 +12,13 @@ use native.Mathlib.Numerals.{add-one}
 use native.Mathlib.Omega.{arith}
 use lib.Dec.{eqb, leb}
 use lib.ListN.{length}
-use borrow.Author.Tests.{eqb-true}
+use borrow.Author.Tests.{eqb-true, eqb-false}
 use Rattle.text.specs.declared.Sort.TheVariants.{Digit, Named}
-use Rattle.text.specs.declared.Took.TheVariants.{On, Off}
+use Rattle.std.specs.Prelude.{Ok, Err}
 use Rattle.text.specs.declared.Fit.{Fit}
 use Rattle.text.specs.Bytes.{byte_at, digit, letter, in_sort, span}
 use Rattle.text.specs.Forms.{part_of, take_run, take_part, x_at, y_at, ending, fit, going, follow, fit_of, further}
-use Rattle.text.proofs.Tests.{cond_has}
+use Rattle.text.proofs.Tests.{by_test, cond_has}
 use Rattle.text.proofs.Reach.{in_text, span-within}
 use Rattle.runs.proofs.Runs.{run_on, run_off, span_off}
 use Rattle.parts.proofs.Further.{nearer, farther, further-far, least, took_on, took_off, name_least, inside, there, missing, halted, two, three, level, square, hash, back}
@@ -90,9 +91,9 @@ module _ (w : List ℕ) (at : ℕ) where
         let m = span Named w at 17 in
         let some : 0 < m = omega (arith, ap length (run_on Named w at 16 n)) in
         let reach : at + m ≤ length w = span-within Named w at 17 (omega (arith, in_text Named w at n)) in
-        cond_has (λ r. at < (going r (λ e. ending 1 w e (at + 1) 0) (λ e. fit 1 false e 0 0)).far) (eqb m 0) (Off at) (cond (leb m 16) (On (at + m)) (Off (at + 16)))
+        cond_has (λ r. at < (going r (λ e. ending 1 w e (at + 1) 0) (λ e. fit 1 false e 0 0)).far) (eqb m 0) (Err at) (cond (leb m 16) (Ok (at + m)) (Err (at + 16)))
         (λ z. absurd (omega (arith, eqb-true m 0 z)))
-        (λ _. cond_has (λ r. at < (going r (λ e. ending 1 w e (at + 1) 0) (λ e. fit 1 false e 0 0)).far) (leb m 16) (On (at + m)) (Off (at + 16))
+        (λ _. cond_has (λ r. at < (going r (λ e. ending 1 w e (at + 1) 0) (λ e. fit 1 false e 0 0)).far) (leb m 16) (Ok (at + m)) (Err (at + 16))
         (λ _. omega (arith, least w 1 [] (at + m) (at + 1) 0 tt reach))
         (λ _. omega arith))
 
@@ -111,7 +112,7 @@ module _ (w : List ℕ) (at : ℕ) where
 
     module _ (h : byte_at w (at + 1) ≡ 35) where
       -- the name is R alone
-      alone : take_run Named 16 w at ≡ On (at + 1)
+      alone : take_run Named 16 w at ≡ Ok (at + 1)
       unfolding take_run in_sort digit letter
       alone =
           let e : byte_at w (suc at) ≡ 35 = ap (byte_at w) (sym (add-one at)) ∙ h in
@@ -131,3 +132,34 @@ module _ (w : List ℕ) (at : ℕ) where
 
       pub calls_on : byte_at w (at + 2) ≡ 35 → of_calls w at ≡ follow 15 (107 ∷ []) w (at + 3) 0 0
       calls_on m = let z : at + 2 + 1 ≡ at + 3 = omega arith in called ∙ there w hash (at + 2) 15 0 0 (107 ∷ []) m ∙ ap (λ d. follow 15 (107 ∷ []) w d 0 0) z
+
+  -- ## as the code goes on
+
+  pub jumps_are : of_jumps w at
+      ≡ cond (eqb (byte_at w at) 35)
+      (cond (eqb (byte_at w (at + 1)) 91) (of_gotos w (at + 2)) (cond (eqb (byte_at w (at + 1)) 82) (ending 16 w (at + 2) 0 0) (follow 4 (107 ∷ []) w (at + 1) 0 0)))
+      (fit 4 false at 0 0)
+  jumps_are =
+      by_test (eqb (byte_at w at) 35)
+      (λ t. let h = eqb-true (byte_at w at) 35 t in
+      by_test (eqb (byte_at w (at + 1)) 91)
+      (λ u. rw (t, u) (jumps-goto h (eqb-true (byte_at w (at + 1)) 91 u)))
+      (λ u. by_test (eqb (byte_at w (at + 1)) 82)
+      (λ v. rw (t, u, v) (jumps_back h (eqb-true (byte_at w (at + 1)) 82 v)))
+      (λ v. rw (t, u, v) (jumps-number h (eqb-false (byte_at w (at + 1)) 91 u) (eqb-false (byte_at w (at + 1)) 82 v)))))
+      (λ t. rw t (jumps_off (eqb-false (byte_at w at) 35 t)))
+
+  pub calls_are : of_calls w at
+      ≡ cond (eqb (byte_at w at) 82)
+      (cond (eqb (byte_at w (at + 1)) 35) (cond (eqb (byte_at w (at + 2)) 35) (follow 15 (107 ∷ []) w (at + 3) 0 0) (fit 15 false (at + 2) 0 0)) (fit_of 1 w at))
+      (fit_of 1 w at)
+  calls_are =
+      by_test (eqb (byte_at w at) 82)
+      (λ t. let h = eqb-true (byte_at w at) 82 t in
+      by_test (eqb (byte_at w (at + 1)) 35)
+      (λ u. let k = eqb-true (byte_at w (at + 1)) 35 u in
+      by_test (eqb (byte_at w (at + 2)) 35)
+      (λ v. rw (t, u, v) (calls_on h k (eqb-true (byte_at w (at + 2)) 35 v)))
+      (λ v. rw (t, u, v) (calls_off h k (eqb-false (byte_at w (at + 2)) 35 v))))
+      (λ u. rw (t, u) (calls_name h (eqb-false (byte_at w (at + 1)) 35 u))))
+      (λ t. rw t (calls-none (eqb-false (byte_at w at) 82 t)))

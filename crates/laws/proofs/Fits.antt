@@ -6,7 +6,7 @@ use mathlib.Core.Path.{◌≡◌, sym, ap, ◌∙◌}
 use Prim.Native.Nat.{ℕ, zero, suc, ◌+◌, ◌≤◌}
 use native.Mathlib.Omega.{arith}
 use mathlib.Core.Bool.{Bool, true, false, cond}
-use mathlib.Core.Option.{Option, none, some}
+use Rattle.std.specs.Prelude.{Option, None, Some}
 use mathlib.Core.List.{List, [], ◌∷◌, ◌++◌, map, map-append}
 use lib.ListN.{length, drop, length-drop, length-map}
 use Rattle.rules.specs.Record.{bytes_of, records_of}
@@ -51,7 +51,7 @@ unfolding label_from or_zero
 label_in s i [] = omega arith
 label_in s i (o ∷ os) = by (is_label s o) (label_in s (suc i) os)
   where
-    by : (t : Bool) → or_zero (label_from s (suc i) os) ≤ suc i + length os → or_zero (cond t (some i) (label_from s (suc i) os)) ≤ i + length (o ∷ os)
+    by : (t : Bool) → or_zero (label_from s (suc i) os) ≤ suc i + length os → or_zero (cond t (Some i) (label_from s (suc i) os)) ≤ i + length (o ∷ os)
     by true h = omega arith
     by false h = omega arith
 
@@ -65,8 +65,8 @@ module _ (L : List Op) (n : ℕ) (l : length L ≤ n) where
   target2_in s t = by (target L s) (target_in s)
     where
       by : (o : Option ℕ) → or_zero o ≤ n + 1 → or_zero (label_behind L o t) ≤ n + 2
-      by none h = omega arith
-      by (some i) h = omega (arith, label_in t (suc i) (drop i L), length-drop i L)
+      by None h = omega arith
+      by (Some i) h = omega (arith, label_in t (suc i) (drop i L), length-drop i L)
 
   unlabel-fit : n ≤ 9997 → (p : ℕ) (o : Op) → p ≤ n → Fit o → Fit (unlabel L p o)
   unfolding unlabel

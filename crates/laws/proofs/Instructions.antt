@@ -13,9 +13,9 @@ use native.Mathlib.Nat.{add-zero, suc-add, add-suc, zero-add}
 use native.Mathlib.Numerals.{add-one}
 use native.Mathlib.Omega.{arith}
 use mathlib.Core.Bool.{Bool, true, false, cond, ◌&&◌, ◌||◌}
-use mathlib.Core.Option.{none, some}
+use Rattle.std.specs.Prelude.{None, Some, slice_get}
 use mathlib.Core.List.{List, [], ◌∷◌, ◌++◌, map}
-use lib.ListN.{length, take, drop, get_or, get_elem?, length-drop, get_or-map}
+use lib.ListN.{length, take, drop, get_or, length-drop, get_or-map}
 use lib.Seq.{drop-cons, drop-drop}
 use lib.Dec.{eqb, leb}
 use borrow.Author.Tests.{leb-true, eqb-true, not-false, le-leb, lt-leb, ne_eqb}
@@ -180,9 +180,9 @@ decode-kind r =
 
 four : (a b c d : Bool) → a && b && c && d ≡ true → (a ≡ true) × (b ≡ true) × (c ≡ true) × (d ≡ true)
 four true true true d e = (refl, refl, refl, e)
-four true true false d e = absurd (let z : ◌≡◌ {A = ℕ} 0 1 = cc in omega arith)
-four true false c d e = absurd (let z : ◌≡◌ {A = ℕ} 0 1 = cc in omega arith)
-four false b c d e = absurd (let z : ◌≡◌ {A = ℕ} 0 1 = cc in omega arith)
+four true true false d e = cc
+four true false c d e = cc
+four false b c d e = cc
 
 or_last : (a : Bool) → a || false ≡ true → a ≡ true
 or_last true e = refl
@@ -193,7 +193,7 @@ record In (w : Row) (x y : ℕ) : Type 0 where
   xhigh : x ≤ w.xmax
   yhigh : y ≤ w.ymax
 
-in_row_lem : (w : Row) (r : Rec) → in_row (some w) r ≡ true → In w r.x r.y
+in_row_lem : (w : Row) (r : Rec) → in_row (Some w) r ≡ true → In w r.x r.y
 unfolding in_row
 in_row_lem w r e =
     let p = four (leb w.xmin r.x) (leb r.x w.xmax) (leb w.ymin r.y) (leb r.y w.ymax) e in
@@ -232,7 +232,7 @@ acts_stack x y e = by (eqb x 1001) (eqb x 1003) (eqb x 1002) refl refl refl e
     by true b c p q r f = is 1001 p (acts_push y)
     by false true c p q r f = is 1003 q (acts_compare y)
     by false false true p q r f = is 1002 r (acts_pop y)
-    by false false false p q r f = absurd (let z : ◌≡◌ {A = ℕ} 0 1 = cc in omega arith)
+    by false false false p q r f = cc
 
 -- The record of o is (k, x, y), and o fits.
 abbrev Of : ℕ → ℕ → ℕ → Op → Type 0
@@ -252,9 +252,9 @@ module _ (x y : ℕ) where
   Each p (w ∷ ws) [] = ⊥
   Each p (w ∷ ws) (o ∷ os) = (In w x y → Of p x y o) × Each (suc p) ws os
 
-  lookup : (p k q : ℕ) (ws : List Row) (os : List Op) (z : Op) → Each p ws os → in_row (get_elem? ws k) (rec q x y) ≡ true → Of (k + p) x y (get_or os k z)
+  lookup : (p k q : ℕ) (ws : List Row) (os : List Op) (z : Op) → Each p ws os → in_row (slice_get ws k) (rec q x y) ≡ true → Of (k + p) x y (get_or os k z)
   unfolding in_row
-  lookup p k q [] os z g e = absurd (let z : ◌≡◌ {A = ℕ} 0 1 = cc in omega arith)
+  lookup p k q [] os z g e = cc
   lookup p k q (w ∷ ws) [] z g e = absurd g
   lookup p zero q (w ∷ ws) (o ∷ os) z g e = rw zero-add (g.0 (in_row_lem w (rec q x y) e))
   lookup p (suc k) q (w ∷ ws) (o ∷ os) z g e = rw (suc-add k p, ← add-suc k p) (lookup (suc p) k q ws os z g.1 e)
@@ -295,16 +295,16 @@ module _ (x y : ℕ) where
 
   by_row : (ws : List Row) → Each 1 ws (written (act_of x y) x y) → (k q : ℕ) → in_row (at ws k) (rec q x y) ≡ true → Of k x y (meant k)
   unfolding at in_row
-  by_row ws g zero q e = absurd (let z : ◌≡◌ {A = ℕ} 0 1 = cc in omega arith)
+  by_row ws g zero q e = cc
   by_row ws g (suc j) q e = subst (λ (i : ℕ). Of i x y (meant (suc j))) (add-one j) (lookup 1 j q ws (written (act_of x y) x y) (jump 0) g e)
 
   by_stack : (k : ℕ) → stack_action (rec k x y) ≡ true → Of k x y (meant k)
   unfolding stack_action names written encode
-  by_stack zero e = absurd (let z : ◌≡◌ {A = ℕ} 0 1 = cc in omega arith)
+  by_stack zero e = cc
   by_stack (suc zero) e = acting 1 (acts_stack x y e)
   by_stack (suc (suc zero)) e = acting 2 (acts_stack x y e)
   by_stack (suc (suc (suc zero))) e = acting 3 (acts_stack x y e)
-  by_stack (suc (suc (suc (suc k)))) e = absurd (let z : ◌≡◌ {A = ℕ} 0 1 = cc (lt-leb (suc (suc (suc (suc k)))) 3 (omega arith)) in omega arith)
+  by_stack (suc (suc (suc (suc k)))) e = cc (lt-leb (suc (suc (suc (suc k)))) 3 (omega arith))
 
 -- Routines and bases hold instructions; a relative base does not.
 abbrev pub Absolute : Notation → Type 0
@@ -337,11 +337,11 @@ pub record Faultless (nt : Notation) (s : List ℕ) : Type 0 where
   pub kinds : kind_fault nt s ≡ false
   pub fields : field_fault nt (record_of s) ≡ false
 
-faultless : (nt : Notation) (i : ℕ) (s : List ℕ) → fault nt i s ≡ none → Faultless nt s
+faultless : (nt : Notation) (i : ℕ) (s : List ℕ) → fault nt i s ≡ None → Faultless nt s
 unfolding fault
 faultless nt i s e = let p = neither _ _ e in record { kinds = when-none _ _ p.0; fields = when-none _ _ p.1 }
 
-pub no-fault-at : (nt : Notation) (i n : ℕ) (s : List ℕ) → fault_from nt i n s ≡ none → (k : ℕ) → k < n → Faultless nt (drop (8 * k) s)
+pub no-fault-at : (nt : Notation) (i n : ℕ) (s : List ℕ) → fault_from nt i n s ≡ None → (k : ℕ) → k < n → Faultless nt (drop (8 * k) s)
 unfolding fault_from
 no-fault-at nt i zero s e k h = absurd (omega arith)
 no-fault-at nt i (suc n) s e zero h = faultless nt i s (neither _ _ e).0
@@ -349,7 +349,7 @@ no-fault-at nt i (suc n) s e (suc k) h =
     let q : 8 + 8 * k ≡ 8 * suc k = omega arith in
     subst (λ (t : List ℕ). Faultless nt t) (drop-drop (8 * k) 8 s ∙ ap (λ (j : ℕ). drop j s) q) (no-fault-at nt (suc i) n (drop 8 s) (neither _ _ e).1 k (omega arith))
 
-pub no_faults : (nt : Notation) (i n : ℕ) (s : List ℕ) → fault_from nt i n s ≡ none → All (λ r. field_fault nt r ≡ false) (records_of n s)
+pub no_faults : (nt : Notation) (i n : ℕ) (s : List ℕ) → fault_from nt i n s ≡ None → All (λ r. field_fault nt r ≡ false) (records_of n s)
 unfolding fault_from
 no_faults nt i zero s e = tt
 no_faults nt i (suc n) s e = ((faultless nt i s (neither _ _ e).0).fields, no_faults nt (suc i) n (drop 8 s) (neither _ _ e).1)
@@ -361,7 +361,7 @@ pub record Spare (s : List ℕ) : Type 0 where
 
 and_last : (a b : Bool) → a && b ≡ true → b ≡ true
 and_last true b e = e
-and_last false b e = absurd (let z : ◌≡◌ {A = ℕ} 0 1 = cc in omega arith)
+and_last false b e = cc
 
 pub spare_zero_lem : (nt : Notation) (s : List ℕ) → kind_fault nt s ≡ false → Spare s
 unfolding kind_fault
@@ -389,7 +389,7 @@ record_bytes_lem s b l z =
     ∙ ap (λ (n : ℕ). get_or s 0 0 ∷ get_or s 1 0 ∷ get_or s 2 0 ∷ get_or s 3 0 ∷ get_or s 4 0 ∷ get_or s 5 0 ∷ get_or s 6 0 ∷ n ∷ drop 8 s) (sym z.seven)
     ∙ eight s l)
 
-pub records_of_bytes : (nt : Notation) (i n : ℕ) (s : List ℕ) → Bytes s → length s ≡ 8 * n → fault_from nt i n s ≡ none → bytes_of (records_of n s) ≡ s
+pub records_of_bytes : (nt : Notation) (i n : ℕ) (s : List ℕ) → Bytes s → length s ≡ 8 * n → fault_from nt i n s ≡ None → bytes_of (records_of n s) ≡ s
 unfolding fault_from
 records_of_bytes nt i zero [] b l e = refl
 records_of_bytes nt i zero (x ∷ s) b l e = absurd (omega arith)
@@ -399,7 +399,7 @@ records_of_bytes nt i (suc n) s b l e =
     ∙ record_bytes_lem s b (omega arith) (spare_zero_lem nt s (faultless nt i s p.0).kinds)
 
 -- What is accepted: no bytes left over, and no record with a fault.
-module _ (nt : Notation) (s : List ℕ) (e : fault_from nt 1 (count s) s ≡ none) where
+module _ (nt : Notation) (s : List ℕ) (e : fault_from nt 1 (count s) s ≡ None) where
   pub accepted_bytes : Bytes s → length s % 8 ≡ 0 → bytes_of (records s) ≡ s
   accepted_bytes b l = records_of_bytes nt 1 (count s) s b (omega arith) e
 

@@ -11,9 +11,9 @@ use native.Mathlib.Nat.{add-zero}
 use native.Mathlib.Numerals.{add-one}
 use native.Mathlib.Omega.{arith}
 use mathlib.Core.Bool.{true, false, cond}
-use mathlib.Core.Option.{Option, none, some}
+use Rattle.std.specs.Prelude.{Option, None, Some, slice_get}
 use mathlib.Core.List.{List, [], ◌∷◌, ◌++◌, map}
-use lib.ListN.{length, drop, get_or, get_elem?, length-append}
+use lib.ListN.{length, drop, get_or, length-append}
 use lib.Dec.{eqb}
 use borrow.Author.Tests.{ne_eqb}
 use Rattle.rules.specs.declared.Row.{Row}
@@ -84,19 +84,19 @@ unfolding return_of
 return_beyond k h = rw (ne_eqb k 16 (λ e. omega arith))
 
 unfoldable once_in : Option Row → ℕ
-once_in none = 0
-once_in (some w) = w.once
+once_in None = 0
+once_in (Some w) = w.once
 
 unfoldable each_in : Option Row → ℕ
-each_in none = 0
-each_in (some w) = w.each
+each_in None = 0
+each_in (Some w) = w.each
 
-at_table : (f : Option Row → ℕ) (ws : List Row) (k : ℕ) → f (at ws k) ≡ get_or (f none ∷ map (λ w. f (some w)) ws) k (f none)
+at_table : (f : Option Row → ℕ) (ws : List Row) (k : ℕ) → f (at ws k) ≡ get_or (f None ∷ map (λ w. f (Some w)) ws) k (f None)
 unfolding at
 at_table f ws zero = refl
 at_table f ws (suc k) = by ws k
   where
-    by : (ws : List Row) (k : ℕ) → f (get_elem? ws k) ≡ get_or (map (λ w. f (some w)) ws) k (f none)
+    by : (ws : List Row) (k : ℕ) → f (slice_get ws k) ≡ get_or (map (λ w. f (Some w)) ws) k (f None)
     by [] k = refl
     by (w ∷ ws) zero = refl
     by (w ∷ ws) (suc k) = by ws k
@@ -114,8 +114,8 @@ unfolding row_of added_by once_in each_in
 added-kind n k = by (at rows k) ∙ omega (arith, once_row k, ap (λ (e : ℕ). e * n) (each_row k))
   where
     by : (w : Option Row) → added_by n w ≡ once_in w + each_in w * n
-    by none = omega arith
-    by (some w) = refl
+    by None = omega arith
+    by (Some w) = refl
 
 -- What a kind decodes to adds what the kind adds.
 once_kind : (k : ℕ) → once_of (kind_of k) ≡ once_of k

@@ -9,7 +9,7 @@ use Prim.Native.Nat.{ℕ, zero, suc, ◌*◌, ◌≤◌, ◌<◌}
 use native.Mathlib.Nat.{add-zero}
 use native.Mathlib.Omega.{arith}
 use mathlib.Core.Bool.{Bool, true, false, cond, ◌&&◌}
-use mathlib.Core.Option.{Option, none, some}
+use Rattle.std.specs.Prelude.{Option, None, Some}
 use mathlib.Core.List.{List, [], ◌∷◌, map}
 use lib.ListN.{length, drop, get_or, drop_of_length-le, get_or-map}
 use lib.Seq.{drop-cons}
@@ -105,8 +105,8 @@ back_at ends d k on = on (suc d)
 back_at other d k on = on d
 
 unfoldable pub role_at : Sort → Option Op → Role
-role_at b none = other
-role_at b (some o) = role b o
+role_at b None = other
+role_at b (Some o) = role b o
 
 unfoldable pub back : Sort → List Op → ℕ → ℕ → ℕ
 back b L zero d = 0

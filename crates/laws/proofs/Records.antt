@@ -12,19 +12,18 @@ use mathlib.Core.Path.{◌≡◌, refl, sym, ap, ◌∙◌}
 use Prim.Native.Nat.{ℕ, zero, suc, ◌+◌, ◌-◌, ◌*◌, ◌/◌, ◌%◌, ◌≤◌, ◌<◌}
 use native.Mathlib.Nat.{add-zero, sub-zero, zero-sub, suc-sub-suc}
 use native.Mathlib.Omega.{arith}
-use mathlib.Core.Option.{none, some}
-use mathlib.Core.List.{List, [], ◌∷◌, ◌++◌, map, append-nil}
+use Rattle.std.specs.Prelude.{None, Some}
+use mathlib.Core.List.{List, [], ◌∷◌, ◌++◌, append-nil}
 use lib.ListN.{length, drop, get_or, length-map, drop_of_length-le}
 use lib.Seq.{drop-cons, drop-drop, get_or-drop}
+use Rattle.std.proofs.lemmas.List.{get_or-map}
+use Rattle.std.proofs.lemmas.List.Elements.{All-from_recursion}
+pub use Rattle.std.specs.List.{AllByRecursion as All}
 use Rattle.rules.specs.Record.{Rec, rec, bytes_of, count, record_of, records_of, records}
 use Rattle.rules.specs.Numbers.{at}
 use Rattle.rules.specs.Instruction.{Op, jump, decode, ops}
 
 -- ## Every member of a list
-
-abbrev pub All : {A : Type 0} → (A → Type 0) → List A → Type 0
-All P [] = Unit {0}
-All P (x ∷ xs) = P x × All P xs
 
 module _ {A : Type 0} (P : A → Type 0) where
   pub all_append : (xs ys : List A) → All P xs → All P ys → All P (xs ++ ys)
@@ -32,25 +31,23 @@ module _ {A : Type 0} (P : A → Type 0) where
   all_append (x ∷ xs) ys p q = (p.0, all_append xs ys p.1 q)
 
   pub all_get_d : (xs : List A) (k : ℕ) (z : A) → All P xs → k < length xs → P (get_or xs k z)
-  all_get_d [] k z p h = absurd (omega arith)
-  all_get_d (x ∷ xs) zero z p h = p.0
-  all_get_d (x ∷ xs) (suc k) z p h = all_get_d xs k z p.1 (omega arith)
+  all_get_d xs k z p h = All-from_recursion P xs p k z h
 
 module _ {A : Type 0} where
-  pub at-get_or : (L : List A) (k : ℕ) (z : A) → k < length L → at L (suc k) ≡ some (get_or L k z)
+  pub at-get_or : (L : List A) (k : ℕ) (z : A) → k < length L → at L (suc k) ≡ Some (get_or L k z)
   unfolding at
   at-get_or [] k z h = absurd (omega arith)
   at-get_or (x ∷ L) zero z h = refl
   at-get_or (x ∷ L) (suc k) z h = at-get_or L k z (omega arith)
 
-  pub at_none : (L : List A) (i : ℕ) → length L < i → at L i ≡ none
+  pub at_none : (L : List A) (i : ℕ) → length L < i → at L i ≡ None
   unfolding at
   at_none L zero h = refl
   at_none [] (suc k) h = refl
   at_none (x ∷ L) (suc zero) h = absurd (omega arith)
   at_none (x ∷ L) (suc (suc k)) h = at_none L (suc k) (omega arith)
 
-  pub at_zero : (L : List A) → at L 0 ≡ none
+  pub at_zero : (L : List A) → at L 0 ≡ None
   unfolding at
   at_zero L = refl
 
@@ -130,10 +127,10 @@ module _ (s : List ℕ) where
   pub records-get_or : (k : ℕ) (z : Rec) → k < count s → get_or (records s) k z ≡ record_at s k
   records-get_or k z h = records_of-get_or (count s) k s z h
 
-  pub records-at : (k : ℕ) → k < count s → at (records s) (suc k) ≡ some (record_at s k)
-  records-at k h = at-get_or (records s) k (record_at s k) (omega (arith, records-length s)) ∙ ap some (records-get_or k (record_at s k) h)
+  pub records-at : (k : ℕ) → k < count s → at (records s) (suc k) ≡ Some (record_at s k)
+  records-at k h = at-get_or (records s) k (record_at s k) (omega (arith, records-length s)) ∙ ap Some (records-get_or k (record_at s k) h)
 
-  pub records-none : (i : ℕ) → count s < i → at (records s) i ≡ none
+  pub records-none : (i : ℕ) → count s < i → at (records s) i ≡ None
   records-none i h = at_none (records s) i (omega (arith, records-length s))
 
   -- Fields read from bytes fit two bytes.
@@ -156,20 +153,13 @@ ops-length s = length-map (records s) decode ∙ records-length s
 module _ (s : List ℕ) (k : ℕ) where
   pub ops-get_or : (z : Op) → k < count s → get_or (ops s) k z ≡ decode (record_at s k)
   unfolding ops
-  ops-get_or z h = get_d_map (records s) k z h' ∙ ap decode (records-get_or s k (rec 0 0 0) h)
-    where
-      h' : k < length (records s)
-      h' = omega (arith, records-length s)
+  ops-get_or z h =
+      get_or-map decode (records s) k (rec 0 0 0) z (omega (arith, records-length s)) ∙ ap decode (records-get_or s k (rec 0 0 0) h)
 
-      get_d_map : (rs : List Rec) (k : ℕ) (z : Op) → k < length rs → get_or (map decode rs) k z ≡ decode (get_or rs k (rec 0 0 0))
-      get_d_map [] k z h = absurd (omega arith)
-      get_d_map (r ∷ rs) zero z h = refl
-      get_d_map (r ∷ rs) (suc k) z h = get_d_map rs k z (omega arith)
+  pub ops-at : k < count s → at (ops s) (suc k) ≡ Some (decode (record_at s k))
+  ops-at h = at-get_or (ops s) k (jump 0) (omega (arith, ops-length s)) ∙ ap Some (ops-get_or (jump 0) h)
 
-  pub ops-at : k < count s → at (ops s) (suc k) ≡ some (decode (record_at s k))
-  ops-at h = at-get_or (ops s) k (jump 0) (omega (arith, ops-length s)) ∙ ap some (ops-get_or (jump 0) h)
-
-  pub ops-none : count s < k → at (ops s) k ≡ none
+  pub ops-none : count s < k → at (ops s) k ≡ None
   ops-none h = at_none (ops s) k (omega (arith, ops-length s))
 
   pub ops-drop : k < count s → drop k (ops s) ≡ decode (record_at s k) ∷ drop (suc k) (ops s)

@@ -1,21 +1,18 @@
 -- The lines of a base, as code goes on from one to the next.
---     line_of, lines_groups, same_line     the line of record i of the file; the lines of all its records; what the code reads of it
 --     listing_is     the listing with its first line
---     turn, finish     after i lines: one line more; at the end
-use mathlib.Core.Path.{◌≡◌, refl, sym, ap, ◌∙◌}
-use Prim.Native.Nat.{ℕ, zero, suc, ◌+◌, ◌-◌, ◌≤◌, ◌<◌}
+--     turn     after k lines, one line more
+use mathlib.Core.Path.{◌≡◌, sym, ap, ◌∙◌}
+use Prim.Native.Nat.{ℕ, zero, suc, ◌+◌, ◌-◌, ◌<◌}
 use native.Mathlib.Nat.{zero-add, suc-add, add-suc}
 use native.Mathlib.Numerals.{add-one}
 use native.Mathlib.Omega.{arith}
 use mathlib.Core.List.{List, [], ◌∷◌, ◌++◌, append_assoc, append-nil}
 use lib.ListN.{length, take, get_or}
-use lib.Seq.{take-length}
 use borrow.Rule.Slice.PartMut.{put_mid}
 use Rattle.rules.specs.Record.{Rec, rec, count, records}
 use Rattle.laws.proofs.Records.{records-length}
-use Rattle.laws.proofs.SecondLevel.{groups}
 use Rattle.records.specs.Reading.{rec_at}
-use Rattle.records.proofs.Writing.{rest, rec-get_or, copied}
+use Rattle.records.proofs.Writing.{rest, rec-get_or}
 use Rattle.print.specs.Text.{ascii, filled_sign, filled}
 use Rattle.print.specs.Printing.{Printed}
 use Rattle.print.proofs.Printing.{print_more, print_as}
@@ -35,30 +32,16 @@ unfolding filled filled_sign
 first_line n m = simp append_assoc
 
 module _ (s : List ℕ) where
-  abbrev pub line_of : ℕ → List ℕ
-  line_of i = line i (rec_at s i)
-
-  lines_taken : (k : ℕ) → k ≤ count s → lines 1 (take k (records s)) ≡ groups line_of k
-  unfolding lines groups
-  lines_taken zero h = refl
-  lines_taken (suc k) h =
-      lines_on 1 k (records s) (rec 0 0 0) (omega (arith, records-length s))
-      ∙ rw (lines_taken k (omega arith), add-one k, rec-get_or s k (omega arith) (rec 0 0 0))
-
-  pub lines_groups : lines 1 (records s) ≡ groups line_of (count s)
-  lines_groups = ap (lines 1) (sym (take-length (records s)) ∙ ap (λ (n : ℕ). take n (records s)) (records-length s)) ∙ lines_taken (count s) (omega arith)
-
   pub listing_is : (n : ℕ) → listing n (records s) ≡ filled (ascii "length x y\n") n (count s) ++ lines 1 (records s)
   unfolding listing
   listing_is n = rw records-length (ap (λ (t : List ℕ). t ++ lines 1 (records s)) (first_line n (count s)))
 
-  pub same_line : (i : ℕ) {k x y : ℕ} → k ≡ (rec_at s i).kind → x ≡ (rec_at s i).x → y ≡ (rec_at s i).y → line_of i ≡ line i (rec k x y)
-  same_line i k x y = ap (line i) (copied k x y)
-
-  module _ (i : ℕ) {o w : List ℕ} {at : ℕ} (v : Printed (groups line_of i) o w at) where
-    pub turn : {ys : List ℕ} {k : ℕ} → Printed (line_of (i + 1)) (rest w at) ys k → Printed (groups line_of (i + 1)) o (put_mid at (length w - at) w ys) (at + k)
-    unfolding groups
-    turn p = rw add-one (print_more v (rw add-one at p))
-
-    pub finish : i ≤ count s → count s ≤ i → Printed (lines 1 (records s)) o w at
-    finish h l = let e : i ≡ count s = omega arith in print_as lines_groups (rw e at v)
+  pub turn : (k : ℕ) {o w ys : List ℕ} {at j : ℕ} → k < count s → Printed (lines 1 (take k (records s))) o w at → Printed (line (k + 1) (rec_at s (k + 1))) (rest w at) ys j
+      → Printed (lines 1 (take (k + 1) (records s))) o (put_mid at (length w - at) w ys) (at + j)
+  turn k h v p =
+      let z = rec 0 0 0 in
+      let e : rec_at s (k + 1) ≡ get_or (records s) k z = rw add-one (sym (rec-get_or s k h z)) in
+      let m : lines 1 (take (k + 1) (records s)) ≡ lines 1 (take k (records s)) ++ line (k + 1) (rec_at s (k + 1)) =
+      rw e (ap (λ (i : ℕ). lines 1 (take i (records s))) (add-one k) ∙ lines_on 1 k (records s) z (omega (arith, records-length s)))
+      in
+      print_as m (print_more v p)

@@ -1,8 +1,8 @@
 -- The line of a refusal.
---     refused_is, refused-length     by its number and place; it has at most 50 bytes
+--     its_text     by its number and place, it has room in 50 bytes
 --     no_line, its_line     what the call answers, by room
 --     Within, lies, line-within     the bytes printed lie within the text
-use mathlib.Core.Path.{◌≡◌, refl, sym, ap, ◌∙◌}
+use mathlib.Core.Path.{◌≡◌, refl, sym, ap}
 use Prim.Native.Nat.{ℕ, ◌≤◌, ◌<◌}
 use native.Mathlib.Omega.{arith}
 use mathlib.Core.Bool.{Bool, true, false, cond}
@@ -16,24 +16,28 @@ use Rattle.rules.specs.Refusals.{told}
 use Rattle.print.specs.Text.{ascii, filled_sign, filled}
 use Rattle.print.specs.Printing.{Printed}
 use Rattle.print.proofs.Decimal.{decimal-length}
-use Rattle.print.proofs.Printing.{print_all}
+use Rattle.print.proofs.Printing.{Whole, print_all, page}
 use Rattle.lines.specs.Text.{refused_at, refused, Line}
 
-pub refused_is : (r : Refusal) {n p : ℕ} → n ≡ (told r).number → p ≡ (told r).place → filled (ascii "refused x y\n") n p ≡ refused r
+refused_is : (r : Refusal) {n p : ℕ} → n ≡ (told r).number → p ≡ (told r).place → refused r ≡ filled (ascii "refused x y\n") n p
 unfolding refused refused_at filled filled_sign
 refused_is r n p = rw (n, p) (simp append_assoc)
 
-pub refused-length : (n p : ℕ) → n < 18446744073709551616 → p < 18446744073709551616 → length (filled (ascii "refused x y\n") n p) ≤ 50
+refused-length : (n p : ℕ) → n < 18446744073709551616 → p < 18446744073709551616 → length (filled (ascii "refused x y\n") n p) ≤ 50
 unfolding filled filled_sign
 refused-length n p h l = simp length-append (omega (arith, decimal-length 19 n (omega arith), decimal-length 19 p (omega arith)))
 
--- k is how long the line t is.
-module _ {t text : List ℕ} {k : ℕ} (e : k ≡ length t) where
-  pub no_line : length text < k → Line t text 0 text
-  no_line h = let l = rw e at h in record { answers = rw (lt-leb _ _ l); output = rw (lt-leb _ _ l) }
+pub its_text : (r : Refusal) {n p : ℕ} {o w : List ℕ} {k : ℕ} → n ≡ (told r).number → p ≡ (told r).place → n < 18446744073709551616 → p < 18446744073709551616
+    → 50 ≤ length o → Printed (filled (ascii "refused x y\n") n p) o w k → Whole (refused r) o w k
+its_text r {n} {p} a b h l m v = rw (refused_is r a b) (print_all v (omega (arith, refused-length n p h l)))
 
-  pub its_line : {w : List ℕ} {j : ℕ} → k ≤ length text → Printed t text w j → Line t text j w
-  its_line h v = let l = rw e at h in let a = print_all v l in record { answers = rw (le-leb _ _ l) a.count; output = rw (le-leb _ _ l) (a.holds ∙ rw a.count) }
+-- The line t stands in the first k bytes of an array of our own.
+module _ {t o w : List ℕ} {k : ℕ} (p : Whole t o w k) (text : List ℕ) where
+  pub no_line : length text < k → Line t text 0 text
+  no_line h = let l = rw p.count at h in record { answers = rw (lt-leb _ _ l); output = rw (lt-leb _ _ l) }
+
+  pub its_line : {v : List ℕ} → k ≤ length text → v ≡ take k w → Line t text k (v ++ drop k text)
+  its_line h e = let l = rw p.count at h in record { answers = rw (le-leb _ _ l) p.count; output = rw (le-leb _ _ l, e, page p, p.count) }
 
 -- The first n bytes of w are n bytes.
 pub record Within (n : ℕ) (w : List ℕ) : Type 0 where

@@ -1,22 +1,22 @@
 // The lines that the listing program prints, as text in a lent buffer: those of a listing, and the line of a refusal.
 #![tactic(auto)]
 
-ghost use Rattle.rules.specs.Record.{rec, records};
+ghost use Rattle.rules.specs.Record.{records};
 ghost use Rattle.print.specs.Printing.{Printed};
 ghost use Rattle.lines.specs.Text.{line, lines, listing, refused, Line};
 
 use print::{put_form, put_word};
-use records::{kind_at, x_at, y_at};
+use records::record_at;
 use refusals::{number_of, place_of};
-use rules::Refusal;
+use rules::{Record, Refusal};
 use words::put_instruction;
 
 // Number and instruction.
-fn put_line(i: usize, kind: u8, x: u16, y: u16, text: &mut [u8]) -> usize
-    ensures { Printed (line i (rec kind x y)) text.old text.new result }
+fn put_line(i: usize, r: Record, text: &mut [u8]) -> usize
+    ensures { Printed (line i r) text.old text.new result }
 {
     let mut at = put_form(b"x ", i, 0, text);
-    at += put_instruction(kind, x, y, &mut text[at..]);
+    at += put_instruction(r, &mut text[at..]);
     at + put_word(b"\n", &mut text[at..])
 }
 
@@ -24,18 +24,9 @@ fn put_line(i: usize, kind: u8, x: u16, y: u16, text: &mut [u8]) -> usize
 fn put_lines(base: &[u8], text: &mut [u8]) -> usize
     ensures { Printed (lines 1 (records base.now)) text.old text.new result }
 {
-    let n = base.len() / 8;
     let mut at = 0;
-    let mut i = 0;
-    while i < n {
-        i += 1;
-        at += put_line(
-            i,
-            kind_at(base, i),
-            x_at(base, i),
-            y_at(base, i),
-            &mut text[at..],
-        );
+    for i in 0..base.len() / 8 {
+        at += put_line(i + 1, record_at(base, i + 1), &mut text[at..]);
     }
     at
 }
@@ -48,7 +39,8 @@ pub fn put_listing(n: usize, base: &[u8], text: &mut [u8]) -> usize
     at + put_lines(base, &mut text[at..])
 }
 
-// The line of a refusal, `refused`, number, place, and how many bytes it has. A text that is too short is left as it is, with 0.
+// The line of a refusal, `refused`, number, place, and how many bytes it has. A text that is too short is left as it is, with 0: how many
+// bytes are written, as every writer here answers.
 pub fn refused_line(refusal: Refusal, text: &mut [u8]) -> usize
     ensures { Line (refused refusal) text.old result text.new }
 {
@@ -63,5 +55,6 @@ pub fn refused_line(refusal: Refusal, text: &mut [u8]) -> usize
     if text.len() < length {
         return 0;
     }
-    put_word(&line[..length], text)
+    text[..length].copy_from_slice(&line[..length]);
+    length
 }

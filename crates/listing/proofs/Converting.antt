@@ -7,17 +7,15 @@ use mathlib.Core.Path.{◌≡◌, refl, sym, ap, ◌∙◌}
 use Prim.Native.Nat.{ℕ, ◌*◌, ◌≤◌}
 use native.Mathlib.Omega.{arith}
 use mathlib.Core.Bool.{false, ◌||◌}
-use mathlib.Core.Option.{none}
+use Rattle.std.specs.Prelude.{None, Ok, Err}
 use mathlib.Core.List.{List, [], ◌∷◌, ◌++◌}
 use lib.ListN.{length, take, drop, length-append, length-map}
 use lib.Seq.{take_at}
 use borrow.Author.Tests.{le-ltb}
 use Rattle.rules.specs.declared.Refusal.{Refusal}
-use Rattle.rules.specs.declared.Verdict.{Verdict}
-use Rattle.rules.specs.declared.Verdict.TheVariants.{Accepted, Refused}
+use Rattle.rules.specs.Refusals.{Verdict, when, or_else, first, verdict_of, verdict}
 use Rattle.rules.specs.declared.Notation.TheVariants.{Routine}
 use Rattle.rules.specs.Checks.{most}
-use Rattle.rules.specs.Refusals.{when, or_else, first, verdict_of, verdict}
 use Rattle.rules.specs.Record.{bytes_of, count, records}
 use Rattle.rules.specs.Instruction.{encode, ops}
 use Rattle.rules.specs.Skip.{converted_length}
@@ -37,7 +35,7 @@ use Rattle.listing.proofs.Lengths.{all_narrow, listing-length}
 abbrev alone : List ℕ → Verdict
 alone s = verdict (routine_checks s) (base_count s)
 
-module _ (s : List ℕ) (e : first (routine_checks s) ≡ none) where
+module _ (s : List ℕ) (e : first (routine_checks s) ≡ None) where
   sound : Admitted s (count s)
   unfolding check_routine verdict verdict_of
   sound = admitted s (count s) (rw e)
@@ -70,7 +68,7 @@ pub record Base (s base : List ℕ) (n : ℕ) : Type 0 where
   pub then_room : (text : List ℕ) → listing_of s text ≡ verdict (room_for (text_of s) text ∷ []) (length (text_of s))
 
 module _ {s out work base spare : List ℕ} {v : Verdict} (c : Converted s out work v base spare) (o : length out ≡ 32768) (w : length work ≡ 32768) where
-  room : {n : ℕ} → alone s ≡ Accepted n → (short (base_count s) out || short (base_count s) work) ≡ false
+  room : {n : ℕ} → alone s ≡ Ok n → (short (base_count s) out || short (base_count s) work) ≡ false
   unfolding short base_count
   room e =
       let b = (sound s (accepted-none (routine_checks s) (base_count s) e)).room in
@@ -79,21 +77,21 @@ module _ {s out work base spare : List ℕ} {v : Verdict} (c : Converted s out w
   -- 4,096 records have their room, so that refusals 1 to 7 decide
   converting_is : (u : Verdict) → alone s ≡ u → converting s out work ≡ u
   unfolding converting verdict verdict_of first or_else when
-  converting_is (Accepted n) e =
+  converting_is (Ok n) e =
       accepted_then (routine_checks s) (base_count s) _ (base_count s) e
-      ∙ rw (room e) (ap Accepted (sym (accepted-count (routine_checks s) (base_count s) e)))
-  converting_is (Refused r) e = refused_then (routine_checks s) (base_count s) _ (base_count s) e
+      ∙ rw (room e) (ap Ok (sym (accepted-count (routine_checks s) (base_count s) e)))
+  converting_is (Err r) e = refused_then (routine_checks s) (base_count s) _ (base_count s) e
 
   decided : {u : Verdict} → v ≡ u → alone s ≡ u
   decided e = sym (converting_is (alone s) refl) ∙ sym c.answers ∙ e
 
-  pub refused_as : {r : Refusal} {text : List ℕ} → v ≡ Refused r → Listed (listing_of s text) (text_of s) text (Refused r) text
+  pub refused_as : {r : Refusal} {text : List ℕ} → v ≡ Err r → Listed (listing_of s text) (text_of s) text (Err r) text
   unfolding listing_of printed
   refused_as e =
       let l = refused_then (routine_checks s) (base_count s) _ _ (decided e) in
       record { answers = sym l; output = rw l }
 
-  pub base_of : {n : ℕ} → v ≡ Accepted n → Base s base n
+  pub base_of : {n : ℕ} → v ≡ Ok n → Base s base n
   unfolding filled base_count listing_of text_of
   base_of {n} e =
       let a = decided e in
@@ -115,6 +113,6 @@ module _ {s out work base spare : List ℕ} {v : Verdict} (c : Converted s out w
         then_room = λ text. accepted_then (routine_checks s) (base_count s) _ _ a;
       }
 
-  pub listed_as : {n : ℕ} {text text' : List ℕ} {r : Verdict} → v ≡ Accepted n
+  pub listed_as : {n : ℕ} {text text' : List ℕ} {r : Verdict} → v ≡ Ok n
       → Listed (verdict (room_for (from s base n) text ∷ []) (length (from s base n))) (from s base n) text r text' → Listed (listing_of s text) (text_of s) text r text'
   listed_as e p = let b = base_of e in rw (b.then_room _, ← b.is_text) p

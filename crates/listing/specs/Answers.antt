@@ -1,11 +1,9 @@
 -- What the call answers, and what the lent text then holds, on every input.
-use Rattle.std.specs.Prelude.{◌≡◌, ◌∷◌, ◌++◌}
+use Rattle.std.specs.Prelude.{◌≡◌, ◌∷◌, ◌++◌, Ok, Err}
 use Rattle.rules.specs.Words.{ℕ, Option, List, [], length, drop, ltb}
 use Rattle.rules.specs.declared.Refusal.{Refusal}
 use Rattle.rules.specs.declared.Refusal.TheVariants.{Room}
-use Rattle.rules.specs.declared.Verdict.{Verdict}
-use Rattle.rules.specs.declared.Verdict.TheVariants.{Accepted, Refused}
-use Rattle.rules.specs.Refusals.{when, verdict}
+use Rattle.rules.specs.Refusals.{Verdict, when, verdict}
 use Rattle.rules.specs.Answers.{routine_checks}
 use Rattle.listing.specs.Text.{text_of}
 
@@ -19,8 +17,8 @@ listing_of s text = verdict (routine_checks s ++ (room_for (text_of s) text ∷ 
 
 -- A refused call prints nothing; one that succeeds prints t at the start, and keeps the rest.
 unfoldable pub printed : Verdict → List ℕ → List ℕ → List ℕ
-printed (Accepted n) t text = t ++ drop n text
-printed (Refused r) t text = text
+printed (Ok n) t text = t ++ drop n text
+printed (Err r) t text = text
 
 -- The verdict v on a call that prints t.
 pub record Listed (v : Verdict) (t text : List ℕ) (answer : Verdict) (text' : List ℕ) : Type 0 where

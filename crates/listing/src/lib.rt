@@ -10,11 +10,10 @@ ghost use Rattle.listing.specs.Answers.{room_for, listing_of, Listed};
 
 use lines::put_listing;
 use lower::convert;
-use print::put_word;
-pub use refusals::{number_of, place_of};
 use rules::{Refusal, Verdict};
 
-// The text where it has room, by way of an array that has room for every listing, so that a refused call prints nothing.
+// The text where it has room, by way of an array that has room for every listing, so that a refused call prints nothing. `writer` has
+// the like: one function for both would be public, and ask something of the text that it is given.
 fn show(n: usize, base: &[u8], text: &mut [u8]) -> Verdict
     requires { length (listing n (records base.now)) ≤ 73744 }
     ensures { Listed (verdict (room_for (listing n (records base.now)) text.old ∷ []) (length (listing n (records base.now)))) (listing n (records base.now)) text.old result text.new }
@@ -22,10 +21,10 @@ fn show(n: usize, base: &[u8], text: &mut [u8]) -> Verdict
     let mut page = [0u8; 73744];
     let length = put_listing(n, base, &mut page);
     if text.len() < length {
-        return Verdict::Refused(Refusal::Room);
+        return Err(Refusal::Room);
     }
-    put_word(&page[..length], text);
-    Verdict::Accepted(length)
+    text[..length].copy_from_slice(&page[..length]);
+    Ok(length)
 }
 
 // The listing of a routine at the start of the text, and how many bytes it has. A refusal, the routine's own or 8 where the text
@@ -35,9 +34,6 @@ pub fn list(routine: &[u8], text: &mut [u8]) -> Verdict
 {
     let mut base = [0u8; 32768];
     let mut work = [0u8; 32768];
-    let converted = convert(routine, &mut base, &mut work);
-    match converted {
-        Verdict::Refused(refusal) => Verdict::Refused(refusal),
-        Verdict::Accepted(n) => show(routine.len() / 8, &base[..8 * n], text),
-    }
+    let n = convert(routine, &mut base, &mut work)?;
+    show(routine.len() / 8, &base[..8 * n], text)
 }

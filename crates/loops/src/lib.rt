@@ -1,40 +1,66 @@
 // Stage 3: loops (3.4).
 #![tactic(auto)]
 
-ghost use Rattle.std.specs.Prelude.{◌≤◌};
-ghost use Rattle.rules.specs.Record.{count};
+ghost use Rattle.std.specs.Prelude.{◌≡◌, get_or};
+ghost use Rattle.rules.specs.Numbers.{past};
 ghost use Rattle.rules.specs.Instruction.{loop};
-ghost use Rattle.records.specs.Reading.{rec_at};
 ghost use Rattle.tables.specs.Passing.{Stopping, Opening};
+ghost use Rattle.places.specs.declared.Stage.TheVariants as Stage;
+ghost use Rattle.places.specs.Groups.{staged};
 ghost use Rattle.places.specs.Stages.{Leading};
-ghost use Rattle.places.specs.Groups.{looped, staged};
 ghost use Rattle.places.specs.Writing.{Fitted};
 
 use partners::Sort;
-use places::{Stage, fill_places, look_past, put_kept, put_pair};
-use records::{kind_at, put_record, x_at, y_at};
+use places::{Expansion, File, Stage, fill_places, look_past, put_kept, put_pair, write_groups};
+use records::{jump, put_record, record_at};
+use rules::Record;
 use tables::{fill_headers, fill_stops, look};
 
-// With k the partner's number: +a{* becomes -a and a second-level ##(k+1); -a{* becomes +a and the same; *} becomes ##k.
-fn write_group(
-    s: &[u8],
-    places: &[u16],
-    ends: &[u16],
-    headers: &[u16],
-    i: usize,
-    out: &mut [u8],
-) -> usize
-    requires le_i { (1 ≤ i) × (i ≤ count s.now) }
-    requires leading { Leading Stage.Loops s.now places.now × Stopping loop s.now ends.now × Opening s.now headers.now }
-    ensures { Fitted (looped s.now i (rec_at s.now i)) out.old out.new result }
-{
-    let x = x_at(s, i);
-    let y = y_at(s, i);
-    match kind_at(s, i) {
-        12 => put_pair(out, 3, x, y, look_past(places, look(ends, i))),
-        13 => put_pair(out, 2, x, y, look_past(places, look(ends, i))),
-        14 => put_record(out, 4, look(places, look(headers, i) as usize), 0),
-        _ => put_kept(s, i, places, out),
+// The file, where its jumps lead, and of its loops the ends and the headers.
+#[derive(Drop)]
+pub struct Loops<'a> {
+    file: File<'a>,
+    places: [u16; 4097],
+    ends: [u16; 4097],
+    headers: [u16; 4097],
+    ghost led: { Leading Stage.Loops file.s.now places },
+    ghost stopped: { Stopping loop file.s.now ends },
+    ghost opened: { Opening file.s.now headers },
+}
+
+impl<'a> Loops<'a> {
+    fn past_end(&self, i: usize) -> u16
+        ensures { result ≡ get_or self.now.places (past (get_or self.now.ends i 0)) 0 }
+    {
+        look_past(&self.places, look(&self.ends, i))
+    }
+
+    fn header(&self, i: usize) -> u16
+        ensures { result ≡ get_or self.now.places (get_or self.now.headers i 0) 0 }
+    {
+        look(&self.places, usize::from(look(&self.headers, i)))
+    }
+}
+
+impl<'a> Expansion<'a> for Loops<'a> {
+    ghost stage = { Stage.Loops };
+
+    ghost given = { λ it. it.file.s.now };
+
+    fn file(&self) -> File<'a> {
+        self.file
+    }
+
+    // With k the partner's number: +a{* becomes -a and a second-level ##(k+1); -a{* becomes +a and the same; *} becomes ##k.
+    #[tactic(auto, using(places::proofs::Places::kept_led, places::proofs::Partners::loop_end), unfolding(places::specs::Groups::group, places::specs::Groups::looped))]
+    fn write_group(&self, i: usize, out: &mut [u8]) -> usize {
+        let Record { kind, x, y } = record_at(self.file.s, i);
+        match kind {
+            12 => put_pair(out, Record { kind: 3, x, y }, self.past_end(i)),
+            13 => put_pair(out, Record { kind: 2, x, y }, self.past_end(i)),
+            14 => put_record(out, jump(self.header(i))),
+            _ => put_kept(self.file.s, i, &self.places, out),
+        }
     }
 }
 
@@ -43,21 +69,19 @@ fn write_group(
 pub fn expand_loops(s: &[u8], out: &mut [u8]) -> usize
     ensures { Fitted (staged Stage.Loops s.now) out.old out.new result }
 {
-    let n = s.len() / 8;
-    if 4096 < n {
+    if 4096 < s.len() / 8 {
         return 0;
     }
-    let mut places = [0u16; 4097];
-    fill_places(Stage::Loops, s, &mut places);
-    let mut ends = [0u16; 4097];
-    fill_stops(Sort::Loop, s, &mut ends);
-    let mut headers = [0u16; 4097];
-    fill_headers(s, &mut headers);
-    let mut at = 0;
-    let mut i = 0;
-    while i < n {
-        at += write_group(s, &places, &ends, &headers, i + 1, &mut out[at..]);
-        i += 1;
-    }
-    at
+    let file = File { s };
+    // The tables are in the stage and filled there: handed over, they would be copied.
+    let mut made = Loops {
+        file,
+        places: [0; 4097],
+        ends: [0; 4097],
+        headers: [0; 4097],
+    };
+    fill_places(Stage::Loops, s, &mut made.places);
+    fill_stops(Sort::Loop, s, &mut made.ends);
+    fill_headers(s, &mut made.headers);
+    write_groups(&made, out)
 }

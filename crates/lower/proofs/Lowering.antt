@@ -10,7 +10,7 @@ use mathlib.Core.List.{List, ◌++◌, map}
 use lib.ListN.{length, take, drop, length-map}
 use lib.Seq.{take_at, drop_at, drop-drop, length-take-le}
 use Rattle.rules.specs.declared.Notation.TheVariants.{Routine}
-use Rattle.rules.specs.declared.Verdict.TheVariants.{Accepted}
+use Rattle.std.specs.Prelude.{Ok}
 use Rattle.rules.specs.Record.{Rec, bytes_of, count, records}
 use Rattle.rules.specs.Instruction.{Op, encode, ops, file}
 use Rattle.rules.specs.Checks.{most}
@@ -72,7 +72,7 @@ pub record Ready (s : List ℕ) : Type 0 where
   pub starts : count s ≤ converted_length (ops s)
   pub fits : Stages (ops s)
 
-pub ready : (s : List ℕ) {n : ℕ} → check_routine s ≡ Accepted n → Ready s
+pub ready : (s : List ℕ) {n : ℕ} → check_routine s ≡ Ok n → Ready s
 unfolding most
 ready s {n} e =
     let a = admitted s n e in

@@ -7,22 +7,21 @@ ghost use Rattle.rules.specs.Answers.{check_routine, base_records, base_count, C
 ghost use Rattle.records.specs.Writing.{Wrote};
 
 use growth::base_count;
-use places::Stage;
 use records::clear;
 use rules::{Refusal, Verdict};
 use shape::check_routine;
-use stages::expand;
+use stages::{expand_calls, expand_conditionals, expand_labels, expand_loops};
 
 // Every stage, in order: from the routine to the working buffer, to the output, back to the working buffer, and to the output.
 fn write_base(routine: &[u8], out: &mut [u8], work: &mut [u8]) -> usize
-    requires routine_value { check_routine routine.now ≡ Verdict.Accepted (count routine.now) }
+    requires routine_value { check_routine routine.now ≡ Ok (count routine.now) }
     requires routine_in_bounds { (8 * base_count routine.now ≤ length out.old) × (8 * base_count routine.now ≤ length work.old) }
     ensures { Wrote (base_records routine.now) out.old out.new result }
 {
-    let first = expand(Stage::Labels, routine, work);
-    let second = expand(Stage::Calls, &work[..first], out);
-    let third = expand(Stage::Loops, &out[..second], work);
-    expand(Stage::Conditionals, &work[..third], out)
+    let first = expand_labels(routine, work);
+    let second = expand_calls(&work[..first], out);
+    let third = expand_loops(&out[..second], work);
+    expand_conditionals(&work[..third], out)
 }
 
 // The base of a routine, in the first 8 bytes a record of the output; the working buffer is then all zero. A refusal, 1 to 8, leaves
@@ -30,20 +29,12 @@ fn write_base(routine: &[u8], out: &mut [u8], work: &mut [u8]) -> usize
 pub fn convert(routine: &[u8], out: &mut [u8], work: &mut [u8]) -> Verdict
     ensures { Converted routine.now out.old work.old result out.new work.new }
 {
-    let checked = check_routine(routine);
-    match checked {
-        Verdict::Refused(refusal) => Verdict::Refused(refusal),
-        Verdict::Accepted(_) => {
-            let n = base_count(routine);
-            if out.len() < 8 * n {
-                return Verdict::Refused(Refusal::Room);
-            }
-            if work.len() < 8 * n {
-                return Verdict::Refused(Refusal::Room);
-            }
-            let bytes = write_base(routine, out, work);
-            clear(work);
-            Verdict::Accepted(bytes / 8)
-        }
+    check_routine(routine)?;
+    let n = base_count(routine);
+    if out.len() < 8 * n || work.len() < 8 * n {
+        return Err(Refusal::Room);
     }
+    let bytes = write_base(routine, out, work);
+    clear(work);
+    Ok(bytes / 8)
 }

@@ -4,7 +4,7 @@ use Prim.Native.Nat.{ℕ, zero, suc, ◌+◌, ◌-◌, ◌≤◌}
 use native.Mathlib.Omega.{arith}
 use native.Mathlib.Numerals.{add-one}
 use mathlib.Core.Bool.{Bool, true, false, cond}
-use mathlib.Core.Option.{Option, none, some}
+use Rattle.std.specs.Prelude.{Option, None, Some}
 use mathlib.Core.List.{List}
 use lib.ListN.{get_or}
 use lib.Dec.{eqb}
@@ -49,8 +49,8 @@ module _ (n : ℕ) (m : Mem) where
 
   returned : (o : Option ℕ) → leaving n o m ≡ landed n (leaving n o m)
   unfolding leaving landed move_to names
-  returned none = refl
-  returned (some t) = by (names n t) refl
+  returned None = refl
+  returned (Some t) = by (names n t) refl
     where
       by : (b : Bool) → names n t ≡ b
           → cond b (go t (with_stack (popped m.stack) m)) (go 0 m) ≡ landed n (cond b (go t (with_stack (popped m.stack) m)) (go 0 m))
@@ -112,5 +112,5 @@ unfolding step step_at deed_of place_at
 stands s ps i l h e d f m =
     let z : i ≡ suc (i - 1) = omega arith in
     let r = rec_at_lem s i (λ q. omega arith) h in
-    let q : at (ops s) i ≡ some (decode (rec_at s i)) = ap (at (ops s)) z ∙ ops-at s (i - 1) (omega arith) ∙ ap (λ (o : Rec). some (decode o)) (sym r) in
+    let q : at (ops s) i ≡ Some (decode (rec_at s i)) = ap (at (ops s)) z ∙ ops-at s (i - 1) (omega arith) ∙ ap (λ (o : Rec). Some (decode o)) (sym r) in
     rw (q, ops-length s, f, add-one) (kinds (count s) m (rec_at s i).x (rec_at s i).y (ops s) i (place_in ps i) (rec_at s i).kind e)

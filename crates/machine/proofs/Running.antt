@@ -15,7 +15,6 @@ use Rattle.rules.specs.declared.Ran.{Ran}
 use Rattle.rules.specs.Record.{count}
 use Rattle.rules.specs.Numbers.{names, move_to}
 use Rattle.rules.specs.Instruction.{ops}
-use Rattle.rules.specs.Stack.{stack}
 use Rattle.rules.specs.Step.{Mem, go, halt, step}
 use Rattle.rules.specs.Run.{Run, stopped, run}
 use Rattle.rules.specs.Answers.{Called, ran}
@@ -29,14 +28,14 @@ use Rattle.machine.specs.Running.{stops, Right}
 use Rattle.machine.proofs.Deeds.{landed, stands}
 
 -- Where a run of the file s from position i₀ stands: the locals, and that they come to the whole run.
-pub record Going (s replies : List ℕ) (budget i₀ : ℕ) (z : Stack) (log₀ log : List ℕ) (i : ℕ) (es : List ℕ) (d asked steps : ℕ) : Type 0 where
+pub record Going (s replies : List ℕ) (budget i₀ : ℕ) (z : Stack) (log₀ log : List ℕ) (i : ℕ) (t : Stack) (asked steps : ℕ) : Type 0 where
   pub within : steps ≤ budget
   pub first : steps ≡ 0 → i ≡ i₀
   pub same : length log ≡ length log₀
   pub rest : run (ops s) budget (move_to (count s) i₀) (mem z replies 0 log₀)
-      ≡ plus steps (run (ops s) (budget - steps) (move_to (count s) i) (mem (stack es d) replies asked log))
+      ≡ plus steps (run (ops s) (budget - steps) (move_to (count s) i) (mem t replies asked log))
 
-pub begins : (s replies : List ℕ) (budget i : ℕ) (z : Stack) (log : List ℕ) → Going s replies budget i z log log i z.entries z.depth 0 0
+pub begins : (s replies : List ℕ) (budget i : ℕ) (z : Stack) (log : List ℕ) → Going s replies budget i z log log i z 0 0
 begins s replies budget i z log = record { within = omega arith; first = λ e. refl; same = refl; rest = sym (plus_zero _ ∙ rw sub-zero) }
 
 -- A run that stops answers this.
@@ -45,10 +44,10 @@ pub answered : (r : Run) (steps i : ℕ) (s : Stack) (replies : List ℕ) (asked
 unfolding ran plus
 answered r steps i s replies asked log w e a h = record { answers = h ∙ rw (e, add-zero); logs = rw e }
 
-module _ {s replies : List ℕ} {budget i₀ : ℕ} {z : Stack} {log₀ log : List ℕ} {i : ℕ} {es : List ℕ} {d asked steps : ℕ}
-    (g : Going s replies budget i₀ z log₀ log i es d asked steps) where
+module _ {s replies : List ℕ} {budget i₀ : ℕ} {z : Stack} {log₀ log : List ℕ} {i : ℕ} {t : Stack} {asked steps : ℕ}
+    (g : Going s replies budget i₀ z log₀ log i t asked steps) where
   abbrev here : Mem
-  here = mem (stack es d) replies asked log
+  here = mem t replies asked log
 
   abbrev whole : Run
   whole = run (ops s) budget (move_to (count s) i₀) (mem z replies 0 log₀)
@@ -82,12 +81,12 @@ module _ {s replies : List ℕ} {budget i₀ : ℕ} {z : Stack} {log₀ log : Li
           ∙ rw (u, move_named (count s) i e, left) (plus_halt (ops s) i here (budget - suc steps) steps w (steps_here ∙ ap (landed (count s)) h))
 
       -- A step that is taken.
-      pub goes : (k : ℕ) (log' es' : List ℕ) (d' asked' : ℕ) → done (count s) o here ≡ go k (mem (stack es' d') replies asked' log')
-          → length log' ≡ length log → Going s replies budget i₀ z log₀ log' k es' d' asked' (steps + 1)
+      pub goes : (k : ℕ) (log' : List ℕ) (t' : Stack) (asked' : ℕ) → done (count s) o here ≡ go k (mem t' replies asked' log')
+          → length log' ≡ length log → Going s replies budget i₀ z log₀ log' k t' asked' (steps + 1)
       unfolding landed
-      goes k log' es' d' asked' h l = record {
+      goes k log' t' asked' h l = record {
         within = omega (arith, g.within, q);
         first = λ p. absurd (omega arith);
         same = l ∙ g.same;
-        rest = g.rest ∙ rw (move_named (count s) i e, add-one steps, left) (plus_go (ops s) i here (budget - suc steps) steps (move_to (count s) k) (mem (stack es' d') replies asked' log') (steps_here ∙ ap (landed (count s)) h));
+        rest = g.rest ∙ rw (move_named (count s) i e, add-one steps, left) (plus_go (ops s) i here (budget - suc steps) steps (move_to (count s) k) (mem t' replies asked' log') (steps_here ∙ ap (landed (count s)) h));
       }

@@ -11,7 +11,7 @@ use Rattle.rules.specs.Record.{count}
 use Rattle.rules.specs.Numbers.{names, move_to}
 use Rattle.stack.proofs.Moves.{named, names-leb, move_out}
 use Rattle.ways.specs.Places.{place_at}
-use Rattle.ways.specs.Ways.{way_of, ways}
+use Rattle.ways.specs.Ways.{near, way_of, ways}
 use Rattle.ways.proofs.Ways.{way-found}
 use Rattle.deeds.specs.Deeds.{place_in}
 use Rattle.machine.specs.Running.{Right}
@@ -22,7 +22,7 @@ beyond n k h = sym (move_out n k (names-leb n k (λ z. omega arith) ∙ lt-leb k
 
 -- A move to a place in 16 bits is the move to the place.
 way_moves : (s : List ℕ) (j : ℕ) → count s ≤ 512 → move_to (count s) (way_of s j) ≡ move_to (count s) (place_at s j)
-unfolding way_of
+unfolding near
 way_moves s j h = by (leb (place_at s j) 512) refl
   where
     by : (b : Bool) → leb (place_at s j) 512 ≡ b → move_to (count s) (cond b (place_at s j) 0) ≡ move_to (count s) (place_at s j)

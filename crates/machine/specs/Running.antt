@@ -1,11 +1,10 @@
 -- What the machine's own functions answer, and when a table of places is right.
-use Rattle.std.specs.Prelude.{◌≡◌}
+use Rattle.std.specs.Prelude.{◌≡◌, Ok}
 use Rattle.rules.specs.Words.{ℕ, List}
 use Rattle.rules.specs.declared.Stack.{Stack}
 use Rattle.rules.specs.declared.State.{State}
 use Rattle.rules.specs.declared.Status.{Status}
 use Rattle.rules.specs.declared.Ran.{Ran}
-use Rattle.rules.specs.declared.Outcome.TheVariants.{Stopped}
 use Rattle.rules.specs.Record.{count}
 use Rattle.rules.specs.Numbers.{move_to}
 use Rattle.rules.specs.Stack.{fresh}
@@ -18,7 +17,7 @@ fresh_at i = record { at = i; stack = fresh }
 -- A run that stops.
 abbrev pub stops : Status → ℕ → Stack → ℕ → ℕ → Ran
 stops w i s steps asked = record {
-  outcome = Stopped w;
+  outcome = Ok w;
   state = record { at = i; stack = s };
   steps = steps;
   replies = asked;

@@ -3,12 +3,12 @@
 
 mod run;
 
-ghost use Rattle.std.specs.Prelude.{◌≡◌, ◌-◌};
+ghost use Rattle.std.specs.Prelude.{◌≡◌};
 ghost use Rattle.rules.specs.Answers.{Called, run_routine, run_base, step_routine, step_base};
 ghost use Rattle.machine.specs.Running.{fresh_at};
 
-use checks::check_base;
-use rules::{Ran, State, Verdict};
+use checks::check_records;
+use rules::{Notation, Ran, Stack, State};
 use run::drive;
 use shape::check_routine;
 use stack::Counters;
@@ -19,27 +19,23 @@ use ways::fill_ways;
 fn fresh_at(at: usize) -> State
     ensures { result ≡ fresh_at at }
 {
-    let stack = Counters::fresh();
-    State { at, stack }
+    State {
+        at,
+        stack: Stack::fresh(),
+    }
 }
 
-// How many records stand before a position.
-fn earlier(at: usize) -> usize
-    ensures { result ≡ at - 1 }
-{
-    if at == 0 { 0 } else { at - 1 }
-}
+// The four calls are written out: what they share is `drive`, and a trait of routine and base would be longer than the arms it joins.
 
 // Runs a routine from its start: the checks of a routine, then 9.
 pub fn run_routine(routine: &[u8], replies: &[u8], log: &mut [u8], budget: u64) -> Ran
     ensures { Called (run_routine routine.now replies.now log.old budget) result log.new }
 {
-    let verdict = with_replies(check_routine(routine), replies);
-    match verdict {
-        Verdict::Refused(r) => turned_away(r, fresh_at(0)),
-        Verdict::Accepted(_) => {
-            let mut places = [0u16; 512];
-            fill_ways(routine, 0, routine.len() / 8, &mut places);
+    match with_replies(check_routine(routine), replies) {
+        Err(refusal) => turned_away(refusal, fresh_at(0)),
+        Ok(n) => {
+            let mut places = [0; 512];
+            fill_ways(routine, 0, n, &mut places);
             drive(routine, &places, replies, log, budget, fresh_at(1))
         }
     }
@@ -49,13 +45,9 @@ pub fn run_routine(routine: &[u8], replies: &[u8], log: &mut [u8], budget: u64) 
 pub fn run_base(base: &[u8], replies: &[u8], log: &mut [u8], budget: u64) -> Ran
     ensures { Called (run_base base.now replies.now log.old budget) result log.new }
 {
-    let verdict = with_replies(check_base(base), replies);
-    match verdict {
-        Verdict::Refused(why) => turned_away(why, fresh_at(0)),
-        Verdict::Accepted(_) => {
-            let none = [0u16; 1];
-            drive(base, &none[..0], replies, log, budget, fresh_at(1))
-        }
+    match with_replies(check_records(Notation::Base, base), replies) {
+        Err(why) => turned_away(why, fresh_at(0)),
+        Ok(_) => drive(base, &[], replies, log, budget, fresh_at(1)),
     }
 }
 
@@ -64,12 +56,11 @@ pub fn run_base(base: &[u8], replies: &[u8], log: &mut [u8], budget: u64) -> Ran
 pub fn step_routine(routine: &[u8], replies: &[u8], log: &mut [u8], state: State) -> Ran
     ensures { Called (step_routine routine.now replies.now log.old state) result log.new }
 {
-    let verdict = with_state(with_replies(check_routine(routine), replies), state);
-    match verdict {
-        Verdict::Refused(r) => turned_away(r, state),
-        Verdict::Accepted(_) => {
-            let mut places = [0u16; 512];
-            fill_ways(routine, earlier(state.at), state.at, &mut places);
+    match with_state(with_replies(check_routine(routine), replies), state) {
+        Err(refusal) => turned_away(refusal, state),
+        Ok(_) => {
+            let mut places = [0; 512];
+            fill_ways(routine, state.at.saturating_sub(1), state.at, &mut places);
             drive(routine, &places, replies, log, 1, state)
         }
     }
@@ -79,12 +70,11 @@ pub fn step_routine(routine: &[u8], replies: &[u8], log: &mut [u8], state: State
 pub fn step_base(base: &[u8], replies: &[u8], log: &mut [u8], state: State) -> Ran
     ensures { Called (step_base base.now replies.now log.old state) result log.new }
 {
-    let verdict = with_state(with_replies(check_base(base), replies), state);
-    match verdict {
-        Verdict::Refused(r) => turned_away(r, state),
-        Verdict::Accepted(_) => {
-            let none = [0u16; 1];
-            drive(base, &none[..0], replies, log, 1, state)
-        }
+    match with_state(
+        with_replies(check_records(Notation::Base, base), replies),
+        state,
+    ) {
+        Err(refusal) => turned_away(refusal, state),
+        Ok(_) => drive(base, &[], replies, log, 1, state),
     }
 }

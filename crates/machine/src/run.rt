@@ -4,29 +4,20 @@ ghost use Rattle.rules.specs.Record.{count};
 ghost use Rattle.rules.specs.Numbers.{names, move_to};
 ghost use Rattle.rules.specs.Instruction.{ops};
 ghost use Rattle.rules.specs.Run.{run};
-ghost use Rattle.rules.specs.Stack.{stack};
 ghost use Rattle.rules.specs.Answers.{Called, ran, mem_at};
 ghost use Rattle.machine.specs.Running.{stops, Right};
 
 use deeds::deed_at;
-use rules::{Outcome, Ran, Stack, State, Status};
+use rules::{Ran, Stack, State, Status};
 use stack::names;
-use steps::{Out, turn};
+use steps::turn;
 
 // What a run that stops here answers.
-fn stop(
-    status: Status,
-    at: usize,
-    entries: [u16; 96],
-    depth: usize,
-    steps: u64,
-    asked: usize,
-) -> Ran
-    ensures { result ≡ stops status at (stack entries depth) steps asked }
+fn stop(status: Status, at: usize, stack: Stack, steps: u64, asked: usize) -> Ran
+    ensures { result ≡ stops status at stack steps asked }
 {
-    let stack = Stack { entries, depth };
     Ran {
-        outcome: Outcome::Stopped(status),
+        outcome: Ok(status),
         state: State { at, stack },
         steps,
         replies: asked,
@@ -49,29 +40,25 @@ pub(crate) fn drive(
     ensures { Called (ran (run (ops s.now) budget (move_to (count s.now) state.at) (mem_at state replies.now log.old))) result log.new }
 {
     let n = s.len() / 8;
-    let mut at = state.at;
-    let stack = state.stack;
-    let mut entries = stack.entries;
-    let mut depth = stack.depth;
+    let State { mut at, mut stack } = state;
     let mut asked: usize = 0;
     let mut steps: u64 = 0;
+    // No `for` over the budget: whether the run has ended is asked before whether the budget is spent, also at its end.
     loop {
         if !names(n, at) {
-            return stop(Status::Ended, 0, entries, depth, steps, asked);
+            return stop(Status::Ended, 0, stack, steps, asked);
         }
         if steps == budget {
-            return stop(Status::Spent, at, entries, depth, steps, asked);
+            return stop(Status::Spent, at, stack, steps, asked);
         }
+        // At most 4,097, which is proved.
         let deed = deed_at(s, places, at, (at + 1) as u16);
-        let out = turn(n, deed, &mut entries, &mut depth, replies, log, &mut asked);
-        match out {
-            Out::Go(k) => {
+        match turn(n, deed, &mut stack, replies, log, &mut asked) {
+            Ok(k) => {
                 at = k;
                 steps += 1;
             }
-            Out::Halt(w) => {
-                return stop(w, at, entries, depth, steps, asked);
-            }
+            Err(status) => return stop(status, at, stack, steps, asked),
         }
     }
 }

@@ -1,7 +1,7 @@
 -- What is looked up in the index of a list is the first place: each entry leads to the next one with its number, and an entry with
 -- another number is another name.
 --     along-end, along-none, along_out, along_here, along_on     one entry looked at
---     looked_by     a name looked up
+--     entry_bytes     an entry compared with a name
 --     entered-none, entered-next     one entry entered
 --     room-long, room_narrow, room-test, room-none, room_all     what a fill leaves
 --     index_finds    tables that were zeros and are filled are the index
@@ -11,14 +11,15 @@ use mathlib.Core.List.{List, [], ◌∷◌}
 use Prim.Native.Nat.{ℕ, zero, suc, ◌+◌, ◌*◌, ◌-◌, ◌/◌, ◌%◌, ◌≤◌, ◌<◌}
 use native.Mathlib.Omega.{arith}
 use lib.ListN.{length, get_or, set, take, drop, length-set, drop_of_length-le}
-use lib.Seq.{take_all, drop-cons, get_or-set_same, get_or-set_other}
+use lib.Seq.{drop-cons, get_or-set_same, get_or-set_other}
 use lib.Dec.{eqb, ltb}
 use borrow.Author.Tests.{eqb-true, eqb-false, eq-eqb, ne_eqb, le-leb, lt-leb, lt-ltb, le-ltb}
 use Rattle.text.specs.Names.{same, place_from, entry, entries_of, entries}
 use Rattle.text.proofs.Tests.{by_test}
-use Rattle.names.proofs.Same.{same_is}
+use Rattle.std.specs.Str.{bytes_eq}
+use Rattle.names.proofs.Same.{same_is, same_bytes}
 use Rattle.names.proofs.Entries.{entry_of}
-use Rattle.name_index.specs.Index.{part_from, part_of, Tables, enter, entered, room, filled, both, Fills, along, looked, Indexed}
+use Rattle.name_index.specs.Index.{part_from, part_of, Tables, enter, entered, room, filled, both, Fills, along, Indexed}
 
 part_small : (v : List ℕ) (h : ℕ) → h < 512 → part_from v h < 512
 unfolding part_from
@@ -59,6 +60,13 @@ module _ (es : List (List ℕ)) (u p : List ℕ) where
     pub along_on : same p (entry es e) ≡ false → along m es u p e ≡ along (m - 1) es u p (get_or u e 0)
     along_on h = step ∙ rw h
 
+-- as the code compares it, the bytes of entry e
+pub entry_bytes : (l p : List ℕ) (e : ℕ) → (e ≡ 0 → ⊥) → e ≤ length l / 16
+    → bytes_eq p (take (16 * e - 16 * (e - 1)) (drop (16 * (e - 1)) l)) ≡ same p (entry (entries l) e)
+entry_bytes l p e some there =
+    let z : 16 * e - 16 * (e - 1) ≡ 16 = omega arith in
+    same_bytes _ _ ∙ ap (same p) (rw z (sym (entry_of (length l / 16) l (e - 1) (omega arith))))
+
 pub entered-none : (es : List (List ℕ)) (t : Tables) → entered es 0 t ≡ t
 unfolding entered
 entered-none es t = refl
@@ -68,19 +76,13 @@ unfolding entered
 entered_on es zero t h = absurd (omega arith)
 entered_on es (suc k) t h = let z : suc k - 1 ≡ k = omega arith in rw z
 
--- as the code looks it up, by 16 bytes that are the name
-pub looked_by : (es : List (List ℕ)) (f u w : List ℕ) {p : List ℕ} {r e h : ℕ} → r ≡ along (length es) es u w e → e ≡ get_or f h 0 → h ≡ part_of (take 16 (drop 0 w)) → w ≡ p → length p ≡ 16
-    → r ≡ looked es f u p
-looked_by es f u w {p} x y z q n =
-    let a : take 16 p ≡ p = take_all 16 p (omega arith) in
-    x ∙ rw (y, z, q, a)
-
--- as the code enters it, by the 16 bytes of the entry
-pub entered-next : (l f u : List ℕ) (e h : ℕ) → 0 < e → e ≤ length l / 16 → h ≡ part_of (take 16 (drop (16 * (e - 1)) l))
+-- as the code enters it, by the bytes of the entry
+pub entered-next : (l f u : List ℕ) (e h : ℕ) → 0 < e → e ≤ length l / 16 → h ≡ part_of (take (16 * e - 16 * (e - 1)) (drop (16 * (e - 1)) l))
     → entered (entries l) e (both f u) ≡ entered (entries l) (e - 1) (record { first = set f h e; next = set u e (get_or f h 0) })
 unfolding enter
 entered-next l f u e h lt le q =
-    let z : part_of (entry (entries l) e) ≡ h = ap part_of (entry_of (length l / 16) l (e - 1) (omega arith)) ∙ sym q in
+    let n : 16 * e - 16 * (e - 1) ≡ 16 = omega arith in
+    let z : part_of (entry (entries l) e) ≡ h = ap part_of (entry_of (length l / 16) l (e - 1) (omega arith)) ∙ sym (rw n at q) in
     entered_on (entries l) e (both f u) lt ∙ ap (λ x. entered (entries l) (e - 1) (record { first = set f x e; next = set u e (get_or f x 0) })) z
 
 -- ## The entries above k are entered

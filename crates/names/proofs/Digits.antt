@@ -1,15 +1,13 @@
 -- Digits read one after the other: one more, or the last; and how large the number then is.
-use mathlib.Core.Path.{◌≡◌}
+use mathlib.Core.Path.{◌≡◌, refl}
 use mathlib.Core.Bool.{true, false}
 use mathlib.Core.List.{List}
 use Prim.Native.Nat.{ℕ, zero, suc, ◌+◌, ◌*◌, ◌-◌, ◌≤◌, ◌<◌}
 use native.Mathlib.Omega.{arith}
-use lib.Dec.{leb}
-use borrow.Author.Tests.{leb-true}
+use Rattle.std.specs.Char.{is_ascii_digit}
 use Rattle.text.specs.declared.Sort.TheVariants.{Digit}
 use Rattle.text.specs.Bytes.{byte_at, digit, in_sort, run}
 use Rattle.text.specs.Names.{value_of}
-use Rattle.text.proofs.Tests.{by_test}
 use Rattle.runs.proofs.Runs.{run_on, run_off}
 
 -- ten to the i
@@ -27,12 +25,10 @@ tens_small (suc (suc zero)) h = omega arith
 tens_small (suc (suc (suc zero))) h = omega arith
 tens_small (suc (suc (suc (suc i)))) h = absurd (omega arith)
 
-pub digit-range : (b : ℕ) → in_sort Digit b ≡ true → (48 ≤ b) × (b ≤ 57)
+-- a digit by the library's test is one by the definition
+pub ascii : (b : ℕ) → is_ascii_digit b ≡ in_sort Digit b
 unfolding in_sort digit
-digit-range b h =
-    by_test (leb 48 b)
-    (λ t. (leb-true 48 b t, leb-true b 57 (rw t at h)))
-    (λ t. absurd (let z : false ≡ true = rw t at h in let y : ◌≡◌ {A = ℕ} 0 1 = cc in omega arith))
+ascii b = refl
 
 module _ (w : List ℕ) (at i v : ℕ) where
   pub number_on : i < 4 → in_sort Digit (byte_at w (at + i)) ≡ true

@@ -1,26 +1,25 @@
 -- The entries of the list.
 --     entry_get             a byte of an entry is one of the list
---     entry_on, entry_off, entry-end     an entry compared with a name: one byte more, one that differs, the end
 --     entry_of              an entry by its number
 --     name_out, name_at_lem     the name of an entry, by its number
---     name_part     its bytes in the list
 --     proper_out, proper-none, proper-some     whether an entry is a proper name
 use mathlib.Core.Path.{◌≡◌, refl, sym, ap, ◌∙◌}
-use mathlib.Core.Bool.{Bool, true, false, ◌&&◌}
-use mathlib.Core.List.{List, []}
+use mathlib.Core.Bool.{false, ◌&&◌}
+use mathlib.Core.List.{List, [], ◌∷◌, ◌++◌}
 use Prim.Native.Nat.{ℕ, zero, suc, ◌+◌, ◌*◌, ◌-◌, ◌/◌, ◌≤◌, ◌<◌}
 use native.Mathlib.Omega.{arith}
-use lib.ListN.{length, get_or, take, drop, length-drop, drop_of_length-le}
+use lib.ListN.{length, get_or, take, drop, replicate, length-drop}
 use lib.Seq.{get_or-take, get_or-drop, drop-drop, length-take-le}
-use lib.Dec.{leb, ltb}
-use borrow.Author.Tests.{le-leb, ltb-true, ltb-false}
+use lib.Dec.{eqb, leb}
+use borrow.Author.Tests.{eq-eqb, ne_eqb, le-leb}
+use Rattle.std.specs.List.{list_all}
+use Rattle.std.proofs.lemmas.List.{drop-take}
 use Rattle.text.specs.declared.Sort.TheVariants.{Named}
 use Rattle.text.specs.Bytes.{byte_at, span}
 use Rattle.text.specs.Names.{name_at, same, entries_of, entries, padded, name_of, proper}
-use Rattle.text.proofs.Tests.{by_test}
-use Rattle.text.proofs.Reach.{past_end, span-within}
+use Rattle.text.proofs.Reach.{past_end}
 use Rattle.runs.proofs.Runs.{run_off, span_off}
-use Rattle.names.proofs.Same.{same_on, same_off, run_most, run_take, run-same, padded-length}
+use Rattle.names.proofs.Same.{run_most, run_take, run-same}
 
 module _ (l : List ℕ) (from : ℕ) (room : from + 16 ≤ length l) where
   pub entry_length : length (take 16 (drop from l)) ≡ 16
@@ -32,31 +31,30 @@ module _ (l : List ℕ) (from : ℕ) (room : from + 16 ≤ length l) where
   pub entry_name : name_at (take 16 (drop from l)) 0 ≡ name_at l from
   entry_name = run-same Named l (take 16 (drop from l)) 0 from 16 (λ m h. let z : 0 + m ≡ m = omega arith in rw z (entry_get m h))
 
--- an entry compared with a name, byte by byte
-module _ (l : List ℕ) (from : ℕ) (room : from + 16 ≤ length l) (s : List ℕ) (at : ℕ) where
-  abbrev pub Left : ℕ → Bool
-  Left m = same (drop m (padded 16 (name_at s at))) (drop m (take 16 (drop from l)))
+-- a name padded is the same as what starts with it, if what follows there is zeros
+zeros_behind : (n j : ℕ) (v : List ℕ) → length v ≡ n + j → same (take n v ++ replicate j 0) v ≡ list_all (λ b. eqb b 0) (drop n v)
+unfolding same
+zeros_behind zero zero [] h = refl
+zeros_behind zero zero (b ∷ v) h = absurd (omega arith)
+zeros_behind zero (suc j) [] h = absurd (omega arith)
+zeros_behind zero (suc j) (zero ∷ v) h = zeros_behind zero j v (omega arith)
+zeros_behind zero (suc j) (suc b ∷ v) h = rw (ne_eqb 0 (suc b) (omega arith), ne_eqb (suc b) 0 (omega arith))
+zeros_behind (suc n) j [] h = absurd (omega arith)
+zeros_behind (suc n) j (b ∷ v) h = rw (eq-eqb b b refl) (zeros_behind n j v (omega arith))
 
-  sixteen : length (padded 16 (name_at s at)) ≡ 16
-  sixteen = padded-length 16 (name_at s at) (run_most Named s at 16)
-
-  pub entry_on : (m : ℕ) → m < 16 → byte_at (padded 16 (name_at s at)) m ≡ byte_at l (from + m) → Left m ≡ Left (m + 1)
-  entry_on m h e =
-      same_on (padded 16 (name_at s at)) (take 16 (drop from l)) m (omega (arith, sixteen)) (omega (arith, entry_length l from room))
-      (e ∙ sym (entry_get l from room m h))
-
-  pub entry_off : (m : ℕ) → m < 16 → (byte_at (padded 16 (name_at s at)) m ≡ byte_at l (from + m) → ⊥) → Left m ≡ false
-  entry_off m h e =
-      same_off (padded 16 (name_at s at)) (take 16 (drop from l)) m (omega (arith, sixteen)) (omega (arith, entry_length l from room))
-      (λ z. e (z ∙ entry_get l from room m h))
-
-  pub entry-end : Left 16 ≡ true
-  unfolding same
-  entry-end =
-      rw (
-        drop_of_length-le (padded 16 (name_at s at)) {i = 16} (omega (arith, sixteen)),
-        drop_of_length-le (take 16 (drop from l)) {i = 16} (omega (arith, entry_length l from room)),
-      )
+module _ (l : List ℕ) (from : ℕ) (room : from + 16 ≤ length l) (n : ℕ) (m : n ≡ span Named l from 16) where
+  pub entry_zeros : same (padded 16 (name_at l from)) (take 16 (drop from l)) ≡ list_all (λ b. eqb b 0) (take (from + 16 - (from + n)) (drop (from + n) l))
+  entry_zeros =
+      let v = take 16 (drop from l) in
+      let le : n ≤ 16 = omega (arith, m, run_most Named l from 16) in
+      let u : name_at l from ≡ take n v = sym (entry_name l from room) ∙ run_take Named v 0 16 ∙ ap (λ j. take j v) (ap length (entry_name l from room) ∙ sym m) in
+      let e : n + (16 - n) ≡ 16 = omega arith in
+      let d : from + 16 - (from + n) ≡ 16 - n = omega arith in
+      let w : drop n v ≡ take (from + 16 - (from + n)) (drop (from + n) l) =
+      ap (λ j. drop n (take j (drop from l))) (sym e) ∙ drop-take n (16 - n) (drop from l) ∙ rw (d, drop-drop n from l) in
+      ap (λ j. same (name_at l from ++ replicate (16 - j) 0) v) (sym m) ∙ ap (λ p. same (p ++ replicate (16 - n) 0) v) u
+      ∙ zeros_behind n (16 - n) v (omega (arith, entry_length l from room))
+      ∙ ap (list_all (λ b. eqb b 0)) w
 
 pub entry_of : (n : ℕ) (l : List ℕ) (k : ℕ) → k < n → get_or (entries_of n l) k [] ≡ take 16 (drop (16 * k) l)
 entry_of zero l k h = absurd (omega arith)
@@ -89,14 +87,6 @@ module _ (l : List ℕ) (e k : ℕ) (ek : k ≡ e - 1) where
     pub proper-none : span Named l (16 * k) 16 ≡ 0 → proper (entries l) e ≡ false
     proper-none z = proper-at ∙ rw z
 
-    pub proper-some : (span Named l (16 * k) 16 ≡ 0 → ⊥) → proper (entries l) e ≡ same (padded 16 (name_at l (16 * k))) (take 16 (drop (16 * k) l))
-    proper-some z = proper-at ∙ rw (le-leb 1 (span Named l (16 * k) 16) (omega (arith, z)))
-
--- the bytes of a name in the list
-pub name_part : (l : List ℕ) (e : ℕ) → (length (name_of (entries l) e) ≡ 0 → ⊥)
-    → (name_of (entries l) e ≡ take (length (name_of (entries l) e)) (drop (16 * (e - 1)) l)) × (16 * (e - 1) + length (name_of (entries l) e) ≤ length l)
-name_part l e z =
-    by_test (ltb (e - 1) (length l / 16))
-    (λ t. let h = name_at_lem l e (e - 1) refl (ltb-true (e - 1) (length l / 16) t) in
-    (rw h (run_take Named l (16 * (e - 1)) 16), rw h (span-within Named l (16 * (e - 1)) 16 (omega (arith, ltb-true (e - 1) (length l / 16) t)))))
-    (λ t. absurd (z (ap length (name_out l e (e - 1) refl (ltb-false (e - 1) (length l / 16) t)))))
+    pub proper-some : (n : ℕ) → n ≡ span Named l (16 * k) 16 → (n ≡ 0 → ⊥)
+        → proper (entries l) e ≡ list_all (λ b. eqb b 0) (take (16 * k + 16 - (16 * k + n)) (drop (16 * k + n) l))
+    proper-some n m z = proper-at ∙ rw (le-leb 1 (span Named l (16 * k) 16) (omega (arith, z))) (entry_zeros l (16 * k) (omega arith) n m)

@@ -1,4 +1,5 @@
 pub mod Same
 pub mod Entries
 pub mod Digits
+pub mod Found
 pub mod Once

@@ -1,34 +1,14 @@
 -- Roles as they are read of the bytes of a routine.
---     role_meant, told     what a role that was read means
 --     role-at     the role of record number i, by its kind; there is none where there is no such record
-use mathlib.Core.Path.{◌≡◌, refl, sym, ap, ◌∙◌}
+use mathlib.Core.Path.{◌≡◌, refl}
 use Prim.Native.Nat.{ℕ, zero, suc}
 use mathlib.Core.List.{List, [], ◌∷◌, map}
 use Rattle.rules.specs.Record.{Rec, records}
 use Rattle.rules.specs.Instruction.{Sort, conditional, loop, decode, ops}
 use Rattle.rules.specs.Numbers.{at}
-use Rattle.rules.specs.Partners.{Role, opens, parts, ends, other}
+use Rattle.rules.specs.Partners.{other}
 use Rattle.laws.proofs.Partners.{role_of_kind, role-kind, role_at}
 use Rattle.records.specs.Reading.{or_nothing, rec_at}
-use Rattle.partners.specs.declared.Role as said
-use Rattle.partners.specs.declared.Role.TheVariants.{Opens, Parts, Ends, Other}
-use Rattle.partners.specs.Roles.{role_said}
-
-abbrev pub role_meant : said.Role → Role
-role_meant Opens = opens
-role_meant Parts = parts
-role_meant Ends = ends
-role_meant Other = other
-
-meant : (r : Role) → r ≡ role_meant (role_said r)
-unfolding role_said
-meant opens = refl
-meant parts = refl
-meant ends = refl
-meant other = refl
-
-pub told : {q x : said.Role} {r : Role} → q ≡ role_said r → q ≡ x → r ≡ role_meant x
-told {r = r} e g = meant r ∙ ap role_meant (sym e ∙ g)
 
 module _ (b : Sort) where
   kind_zero : other ≡ role_of_kind b 0

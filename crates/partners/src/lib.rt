@@ -6,14 +6,14 @@ ghost use Rattle.laws.proofs.Partners.{role_of_kind};
 ghost use Rattle.partners.specs.Roles.{sort_of, role_said};
 
 // The two sorts of item that hold bodies.
-#[derive(Clone, Copy)]
+#[derive(Clone, Copy, Debug, PartialEq, Eq)]
 pub enum Sort {
     Conditional,
     Loop,
 }
 
 // What a record is to the items of one sort: it opens one, parts one, ends one, or does none of these.
-#[derive(Clone, Copy)]
+#[derive(Clone, Copy, Debug, PartialEq, Eq)]
 pub enum Role {
     Opens,
     Parts,
@@ -22,22 +22,14 @@ pub enum Role {
 }
 
 // The role of a record, by its kind.
+#[tactic(auto, unfolding(laws::proofs::Partners::role_of_kind, crate::specs::Roles::role_said))]
 pub fn role_of(sort: Sort, kind: u8) -> Role
     ensures { result ≡ role_said (role_of_kind (sort_of sort) kind) }
 {
-    match sort {
-        Sort::Conditional => match kind {
-            8 => Role::Opens,
-            9 => Role::Opens,
-            10 => Role::Parts,
-            11 => Role::Ends,
-            _ => Role::Other,
-        },
-        Sort::Loop => match kind {
-            12 => Role::Opens,
-            13 => Role::Opens,
-            14 => Role::Ends,
-            _ => Role::Other,
-        },
+    match (sort, kind) {
+        (Sort::Conditional, 8 | 9) | (Sort::Loop, 12 | 13) => Role::Opens,
+        (Sort::Conditional, 10) => Role::Parts,
+        (Sort::Conditional, 11) | (Sort::Loop, 14) => Role::Ends,
+        _ => Role::Other,
     }
 }

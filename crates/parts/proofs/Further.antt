@@ -3,7 +3,7 @@
 --     least               a form is followed at least to where it starts
 --     Plain               a sign that stands for itself, and neither ends an instruction nor is free around it
 --     took_on, took_off   one sign that is there, or not
---     NameTo, name_to, number_reach     a name or a number that is there takes a byte and stays in the text
+--     name_ends, number_ends, NameTo, name_to     a name or a number that is there takes a byte and stays in the text
 --     name_least          a name is followed at least to where it starts, wherever that is
 --     inside              a plain sign is in the text
 --     there, missing      one that is there, or not
@@ -21,8 +21,7 @@ use lib.ListN.{length}
 use borrow.Author.Tests.{eq-eqb, ne_eqb, eqb-true, eqb-false, ltb-true, ltb-false, lt-ltb, le-ltb}
 use Rattle.text.specs.declared.Sort.{Sort}
 use Rattle.text.specs.declared.Sort.TheVariants.{Blank, Digit, Named}
-use Rattle.text.specs.declared.Took.{Took}
-use Rattle.text.specs.declared.Took.TheVariants.{On, Off}
+use Rattle.std.specs.Prelude.{Result, Ok, Err}
 use Rattle.text.specs.declared.Fit.{Fit}
 use Rattle.text.specs.Bytes.{byte_at, blank, in_sort, span}
 use Rattle.text.specs.Forms.{itself, part_of, take_run, take_part, take_sign, x_at, y_at, ending, fit, going, follow, further}
@@ -58,7 +57,7 @@ pub record Plain (c : ℕ) : Type 0 where
 
 -- a name is there, and ends at e
 pub record NameTo (w : List ℕ) (at e : ℕ) : Type 0 where
-  pub taken : take_run Named 16 w at ≡ On e
+  pub taken : take_run Named 16 w at ≡ Ok e
   pub ahead : at < e
   pub within : e ≤ length w
 
@@ -71,37 +70,41 @@ module _ (w : List ℕ) where
   least i (p ∷ ps) e x y ok h = by (λ d x' y'. least i ps d x' y' (above p ps ok).1) (take_sign p w e) (take_reach w e p (above p ps ok).0 h)
     where
       by : ((d x' y' : ℕ) → d ≤ length w → d ≤ (follow i ps w d x' y').far)
-          → (r : Took) → Reach w e r → e ≤ (going r (λ d. follow i ps w d (x_at p e x) (y_at p e y)) (λ d. fit i false d x y)).far
-      by go (On d) r = omega (arith, r.0, go d (x_at p e x) (y_at p e y) r.1)
-      by go (Off d) r = r.0
+          → (r : Result ℕ ℕ) → Reach w e r → e ≤ (going r (λ d. follow i ps w d (x_at p e x) (y_at p e y)) (λ d. fit i false d x y)).far
+      by go (Ok d) r = omega (arith, r.0, go d (x_at p e x) (y_at p e y) r.1)
+      by go (Err d) r = r.0
 
   module _ (p at e : ℕ) where
-    pub took_on : (i : ℕ) (ps : List ℕ) (x y : ℕ) → take_sign p w at ≡ On e → follow i (p ∷ ps) w at x y ≡ follow i ps w e (x_at p at x) (y_at p at y)
+    pub took_on : (i : ℕ) (ps : List ℕ) (x y : ℕ) → take_sign p w at ≡ Ok e → follow i (p ∷ ps) w at x y ≡ follow i ps w e (x_at p at x) (y_at p at y)
     unfolding follow
     took_on i ps x y h = rw h
 
-    pub took_off : (i : ℕ) (ps : List ℕ) (x y : ℕ) → take_sign p w at ≡ Off e → follow i (p ∷ ps) w at x y ≡ fit i false e x y
+    pub took_off : (i : ℕ) (ps : List ℕ) (x y : ℕ) → take_sign p w at ≡ Err e → follow i (p ∷ ps) w at x y ≡ fit i false e x y
     unfolding follow
     took_off i ps x y h = rw h
 
   module _ (c : Sort) (most at : ℕ) where
-    out : length w ≤ at → take_run c most w at ≡ Off at
+    out : length w ≤ at → take_run c most w at ≡ Err at
     unfolding take_run
     out h = rw (span_off c w at (suc most) (past_end c w at h))
 
-    reach_by : (e : ℕ) → take_run c most w at ≡ On e → (at ≤ length w → Reach w at (take_run c most w at)) → (at < e) × (e ≤ length w)
+    reach_by : (e : ℕ) → take_run c most w at ≡ Ok e → (at ≤ length w → Reach w at (take_run c most w at)) → (at < e) × (e ≤ length w)
     reach_by e h r =
         by_test (ltb at (length w))
         (λ t. let lt = ltb-true at (length w) t in subst (Reach w at) h (r (omega arith)))
-        (λ t. absurd (let o = out (ltb-false at (length w) t) in let z : ◌≡◌ {A = ℕ} 0 1 = cc in omega arith))
+        (λ t. let o = out (ltb-false at (length w) t) in cc)
 
-  pub name_to : (at e : ℕ) → take_run Named 16 w at ≡ On e → NameTo w at e
+  pub name_ends : (at e : ℕ) (r : Result ℕ ℕ) → r ≡ take_run Named 16 w at → r ≡ Ok e → (at < e) × (e ≤ length w)
+  unfolding take_part part_of
+  name_ends at e r h k = reach_by Named 16 at e (sym h ∙ k) (take_reach w at 97 (omega arith))
+
+  pub name_to : (at e : ℕ) → take_run Named 16 w at ≡ Ok e → NameTo w at e
   unfolding take_part part_of
   name_to at e h = let r = reach_by Named 16 at e h (take_reach w at 97 (omega arith)) in record { taken = h; ahead = r.0; within = r.1 }
 
-  pub number_reach : (at e : ℕ) → take_run Digit 4 w at ≡ On e → (at < e) × (e ≤ length w)
+  pub number_ends : (at e : ℕ) (r : Result ℕ ℕ) → r ≡ take_run Digit 4 w at → r ≡ Ok e → (at < e) × (e ≤ length w)
   unfolding take_part part_of
-  number_reach at e h = reach_by Digit 4 at e h (take_reach w at 107 (omega arith))
+  number_ends at e r h k = reach_by Digit 4 at e (sym h ∙ k) (take_reach w at 107 (omega arith))
 
   -- a name is followed at least to where it starts, wherever that is
   pub name_least : (i : ℕ) (ps : List ℕ) (at : ℕ) → T (positive ps) → at ≤ (follow i (97 ∷ ps) w at 0 0).far

@@ -1,23 +1,21 @@
 -- The signs of a record's form, written one after the other.
---     same-decimal, same-label, five_digits     a number in decimal and a label are what is printed; a number below 65,536 has five digits at most
---     form_by_kind, form_bang, form_jump     the form of a record
---     name, number, label, second, other     what a sign is written as
---     Signing, signing, sign-turn, sign-end     what is written of the form before sign number j: none; one sign more; the end
+--     same_decimal, same_label, five_digits     a number in decimal and a label are what is printed; a number below 65,536 has five digits at most
+--     Signing, signing, sign-turn, sign-end, sign-last     what is written of the form before sign number j: none; one sign more; the end
 use mathlib.Core.Path.{◌≡◌, refl, sym, ap, ◌∙◌}
 use mathlib.Core.Bool.{cond}
 use mathlib.Core.List.{List, [], ◌∷◌, ◌++◌, append-nil, append_assoc}
 use Prim.Native.Nat.{ℕ, zero, suc, ◌+◌, ◌-◌, ◌/◌, ◌%◌, ◌≤◌, ◌<◌}
 use native.Mathlib.Omega.{arith}
-use lib.Dec.{ltb}
+use lib.Dec.{eqb, ltb}
 use lib.ListN.{length, drop}
-use borrow.Author.Tests.{eq-eqb, ne_eqb}
+use borrow.Author.Tests.{eqb-true, eqb-false}
 use borrow.Rule.Slice.PartMut.{put_mid}
-use Rattle.rules.specs.Record.{Rec, rec}
+use Rattle.rules.specs.Record.{Rec}
 use Rattle.text.specs.Bytes.{byte_at}
-use Rattle.text.specs.Forms.{a, k, s, t, signs_of}
-use Rattle.text.specs.Names.{name_of}
+use Rattle.text.specs.Forms.{signs_of}
 use Rattle.text.specs.Writing.{digits, decimal, label_name, written_sign, written_signs, form_of, written}
-use Rattle.signs.proofs.Signs.{sign-some, sign-none}
+use Rattle.text.proofs.Tests.{by_test}
+use Rattle.signs.proofs.Signs.{sign-some, sign-none, sign_eight}
 use Rattle.records.proofs.Writing.{rest}
 use Rattle.print.specs.Text as print
 use Rattle.print.specs.Printing.{Printed}
@@ -29,54 +27,17 @@ unfolding digits print.digits
 same_digits zero n = refl
 same_digits (suc most) n = ap (λ (ds : List ℕ). cond (ltb n 10) ((48 + n) ∷ []) (ds ++ ((48 + n % 10) ∷ []))) (same_digits most (n / 10))
 
-pub same-decimal : (n : ℕ) → decimal n ≡ print.decimal n
+pub same_decimal : (n : ℕ) → decimal n ≡ print.decimal n
 unfolding print.decimal
-same-decimal n = same_digits (suc n) n
+same_decimal n = same_digits (suc n) n
 
 pub five_digits : (n : ℕ) → n < 65536 → length (decimal n) ≤ 5
-five_digits n h = rw (same-decimal n) (decimal-length 4 n (omega arith))
+five_digits n h = rw (same_decimal n) (decimal-length 4 n (omega arith))
 
 -- a label is the form Lx
-pub same-label : (n : ℕ) → label_name n ≡ print.filled (print.ascii "Lx") n 0
+pub same_label : (n : ℕ) → label_name n ≡ print.filled (print.ascii "Lx") n 0
 unfolding print.filled print.filled_sign
-same-label n = rw (same-decimal n, append-nil (print.decimal n))
-
-module _ (kind x y : ℕ) where
-  pub form_by_kind : ¬ (kind ≡ 4) → form_of (rec kind x y) ≡ kind
-  unfolding form_of
-  form_by_kind h = rw (ne_eqb _ _ h)
-
-  pub form_bang : kind ≡ 4 → x ≡ 0 → form_of (rec kind x y) ≡ 17
-  unfolding form_of
-  form_bang h z = rw (eq-eqb _ _ h, eq-eqb _ _ z)
-
-  pub form_jump : kind ≡ 4 → ¬ (x ≡ 0) → form_of (rec kind x y) ≡ 4
-  unfolding form_of
-  form_jump h z = rw (eq-eqb _ _ h, ne_eqb _ _ z)
-
-module _ (es : List (List ℕ)) (r : Rec) (p : ℕ) where
-  pub name : p ≡ a → written_sign es r p ≡ name_of es r.x
-  unfolding written_sign
-  name h = rw (eq-eqb _ _ h)
-
-  module _ (e : ¬ (p ≡ a)) where
-    pub number : p ≡ k → written_sign es r p ≡ print.decimal r.x
-    unfolding written_sign
-    number h = rw (ne_eqb _ _ e, eq-eqb _ _ h) (same-decimal r.x)
-
-    module _ (f : ¬ (p ≡ k)) where
-      pub label : p ≡ s → written_sign es r p ≡ label_name r.x
-      unfolding written_sign
-      label h = rw (ne_eqb _ _ e, ne_eqb _ _ f, eq-eqb _ _ h)
-
-      module _ (g : ¬ (p ≡ s)) where
-        pub second : p ≡ t → written_sign es r p ≡ label_name r.y
-        unfolding written_sign
-        second h = rw (ne_eqb _ _ e, ne_eqb _ _ f, ne_eqb _ _ g, eq-eqb _ _ h)
-
-        pub other : ¬ (p ≡ t) → written_sign es r p ≡ p ∷ []
-        unfolding written_sign
-        other h = rw (ne_eqb _ _ e, ne_eqb _ _ f, ne_eqb _ _ g, ne_eqb _ _ h)
+same_label n = rw (same_decimal n, append-nil (print.decimal n))
 
 pub record Signing (es : List (List ℕ)) (r : Rec) (i : ℕ) (o w : List ℕ) (at j : ℕ) : Type 0 where
   pub before : List ℕ
@@ -92,6 +53,13 @@ module _ (es : List (List ℕ)) (r : Rec) (i : ℕ) (o : List ℕ) where
     unfolding written_signs
     sign-end f p e z =
         print_as (ap (λ i. written_signs es r (signs_of i)) (sym f) ∙ g.whole ∙ ap (λ ps. g.before ++ written_signs es r ps) (sign-none i j (sym e ∙ z)) ∙ append-nil g.before) g.wrote
+
+    -- no form has more than eight signs
+    pub sign-last : i ≡ form_of r → 8 ≤ j → Printed (written es r) o w at
+    sign-last f h =
+        by_test (eqb (byte_at (signs_of i) j) 0)
+        (λ t. sign-end f (byte_at (signs_of i) j) refl (eqb-true _ _ t))
+        (λ t. let e = sign_eight i j (eqb-false _ _ t) in absurd (omega arith))
 
     pub sign-turn : (p : ℕ) → p ≡ byte_at (signs_of i) j → (p ≡ 0 → ⊥) → {ys : List ℕ} {c : ℕ} → Printed (written_sign es r p) (rest w at) ys c
         → Signing es r i o (put_mid at (length w - at) w ys) (at + c) (j + 1)

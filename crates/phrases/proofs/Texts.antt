@@ -1,6 +1,6 @@
 -- The instructions of a routine, written one after the other.
 --     behind, none_behind     the record after the first i, and where there is none
---     joint, no_joint, a_joint     what stands in front of an instruction
+--     joint     what stands in front of an instruction
 --     Texting     what is written of the text before record number i + 1
 --     texting, text_turn, text_end     none; one record more; the end
 use mathlib.Core.Path.{◌≡◌, refl, sym, ap, ◌∙◌}
@@ -10,7 +10,7 @@ use Prim.Native.Nat.{ℕ, zero, suc, ◌+◌, ◌≤◌, ◌<◌}
 use native.Mathlib.Numerals.{add-one}
 use native.Mathlib.Omega.{arith}
 use lib.Dec.{leb}
-use borrow.Author.Tests.{le-leb, lt-leb}
+use borrow.Author.Tests.{lt-leb}
 use lib.ListN.{drop, drop_of_length-le}
 use Rattle.rules.specs.Record.{Rec, count, records}
 use Rattle.laws.proofs.Records.{records-length}
@@ -18,7 +18,6 @@ use Rattle.text.specs.Bytes.{ascii}
 use Rattle.text.specs.Writing.{written, further_ones, text_of}
 use Rattle.records.specs.Reading.{rec_at}
 use Rattle.records.proofs.Writing.{rec-drop}
-use Rattle.print.specs.Text as print
 use Rattle.print.specs.Printing.{Printed}
 use Rattle.print.proofs.Printing.{print-none, print_as}
 
@@ -31,13 +30,6 @@ none_behind s i h = drop_of_length-le (records s) {i = i} (omega (arith, records
 -- What stands in front of instruction i.
 abbrev pub joint : ℕ → List ℕ
 joint i = cond (leb i 1) [] (ascii "; ")
-
-pub no_joint : (i : ℕ) → i ≤ 1 → joint i ≡ []
-no_joint i h = rw (le-leb i 1 h)
-
-pub a_joint : (i : ℕ) → 1 < i → joint i ≡ print.filled (print.ascii "; ") 0 0
-unfolding print.filled print.filled_sign
-a_joint i h = rw (lt-leb i 1 h)
 
 -- What is left of a text behind i instructions.
 abbrev pub later : List (List ℕ) → ℕ → List Rec → List ℕ

@@ -2,123 +2,83 @@
 // bytes.
 #![tactic(auto)]
 
-ghost use Rattle.std.specs.Prelude.{◌≡◌, cond, [], ◌*◌, ◌-◌, leb};
-ghost use Rattle.rules.specs.Record.{rec, records};
+ghost use Rattle.std.specs.Prelude.{◌≡◌, cond, [], leb};
+ghost use Rattle.rules.specs.Record.{records};
 ghost use Rattle.text.specs.Bytes.{ascii};
-ghost use Rattle.text.specs.Names.{entries, name_of};
+ghost use Rattle.text.specs.Names.{entries};
 ghost use Rattle.text.specs.Writing.{label_name, written_sign, form_of, written, text_of};
 ghost use Rattle.print.specs.Printing.{Printed};
 
-use names::name_size;
+use names::name_of;
 use print::{put_form, put_number, put_word};
-use records::{kind_at, x_at, y_at};
+use records::record_at;
+use rules::Record;
 use signs::sign;
 
-fn entry_start(e: u16) -> usize
-    ensures { result ≡ 16 * (e - 1) }
-{
-    if e == 0 {
-        return 0;
-    }
-    16 * (e as usize - 1)
-}
-
-// The name of action e in the list.
-fn put_name(names: &[u8], e: u16, text: &mut [u8]) -> usize
-    ensures { Printed (name_of (entries names.now) e) text.old text.new result }
-{
-    let n = name_size(names, e as usize);
-    if n == 0 {
-        return 0;
-    }
-    let from = entry_start(e);
-    put_word(&names[from..from + n], text)
-}
-
 // A label: L and its number.
+#[tactic(auto, using(crate::proofs::Signs::same_label))]
 fn put_label(n: u16, text: &mut [u8]) -> usize
     ensures { Printed (label_name n) text.old text.new result }
 {
-    put_form(b"Lx", n as usize, 0, text)
+    put_form(b"Lx", usize::from(n), 0, text)
 }
 
 // A sign of a form: a name, a number, a label, or itself.
-fn put_sign(names: &[u8], p: u8, kind: u8, x: u16, y: u16, text: &mut [u8]) -> usize
-    ensures { Printed (written_sign (entries names.now) (rec kind x y) p) text.old text.new result }
+#[tactic(auto, using(crate::proofs::Signs::same_decimal), unfolding(text::specs::Writing::written_sign))]
+fn put_sign(names: &[u8], p: u8, r: Record, text: &mut [u8]) -> usize
+    ensures { Printed (written_sign (entries names.now) r p) text.old text.new result }
 {
-    if p == b'a' {
-        return put_name(names, x, text);
+    match p {
+        b'a' => put_word(name_of(names, usize::from(r.x)), text),
+        b'k' => put_number(usize::from(r.x), text),
+        b's' => put_label(r.x, text),
+        b't' => put_label(r.y, text),
+        _ => put_word(&[p], text),
     }
-    if p == b'k' {
-        return put_number(x as usize, text);
-    }
-    if p == b's' {
-        return put_label(x, text);
-    }
-    if p == b't' {
-        return put_label(y, text);
-    }
-    if text.len() == 0 {
-        return 0;
-    }
-    text[0] = p;
-    1
 }
 
 // The form of a record: `!` for ##0.
-fn form_of(kind: u8, x: u16, y: u16) -> usize
-    ensures { result ≡ form_of (rec kind x y) }
+#[tactic(auto, unfolding(text::specs::Writing::form_of))]
+fn form_of(r: Record) -> usize
+    ensures { result ≡ form_of r }
 {
-    if kind != 4 {
-        return kind as usize;
+    match (r.kind, r.x) {
+        (4, 0) => 17,
+        (kind, _) => usize::from(kind),
     }
-    if x == 0 { 17 } else { 4 }
 }
 
-// The instruction of a record, each sign of its form into the unwritten rest.
-fn put_instruction(names: &[u8], kind: u8, x: u16, y: u16, text: &mut [u8]) -> usize
-    ensures { Printed (written (entries names.now) (rec kind x y)) text.old text.new result }
+// The instruction of a record, each sign of its form into the unwritten rest. No form has more than eight signs.
+fn put_instruction(names: &[u8], r: Record, text: &mut [u8]) -> usize
+    ensures { Printed (written (entries names.now) r) text.old text.new result }
 {
-    let form = form_of(kind, x, y);
+    let form = form_of(r);
     let mut at = 0;
-    let mut j = 0;
-    loop {
+    for j in 0..8 {
         let p = sign(form, j);
         if p == 0 {
             return at;
         }
-        at += put_sign(names, p, kind, x, y, &mut text[at..]);
-        j += 1;
+        at += put_sign(names, p, r, &mut text[at..]);
     }
+    at
 }
 
 // What stands in front of instruction i: nothing in front of the first.
 fn put_joint(i: usize, text: &mut [u8]) -> usize
     ensures { Printed (cond (leb i 1) [] (ascii "; ")) text.old text.new result }
 {
-    if i <= 1 {
-        return 0;
-    }
-    put_form(b"; ", 0, 0, text)
+    if i <= 1 { 0 } else { put_word(b"; ", text) }
 }
 
 // The text of a routine, each instruction into the unwritten rest.
 pub fn put_text(routine: &[u8], names: &[u8], text: &mut [u8]) -> usize
     ensures { Printed (text_of (entries names.now) (records routine.now)) text.old text.new result }
 {
-    let n = routine.len() / 8;
     let mut at = 0;
-    let mut i = 0;
-    while i < n {
-        i += 1;
-        at += put_joint(i, &mut text[at..]);
-        at += put_instruction(
-            names,
-            kind_at(routine, i),
-            x_at(routine, i),
-            y_at(routine, i),
-            &mut text[at..],
-        );
+    for i in 0..routine.len() / 8 {
+        at += put_joint(i + 1, &mut text[at..]);
+        at += put_instruction(names, record_at(routine, i + 1), &mut text[at..]);
     }
     at
 }

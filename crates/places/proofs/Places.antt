@@ -1,19 +1,20 @@
 -- Second level as the code counts it: record by record, by the record's kind.
 --     op-get_or     the instructions of a file, by their numbers
+--     there     a record whose kind is not 0 is one of the file's
 --     chain_length, group-length     how long a group is
 --     seconds_most, seconds_on, leads_in     what stands before a group, and so where a jump leads
 --     leads_zero, leads_out     a number that names no record leads nowhere
---     places-made, kept-led     a table of where jumps lead, and a record that stays by it
---     kept-jump, kept_other     a jump is sent on, and every other record stays
+--     places-made, kept_led     a table of where jumps lead, and a record that stays by it
+--     Counted, counted_none, counted_one, counted_all     the loop that fills it: at the start, a turn, at the end
 use mathlib.Core.Path.{◌≡◌, refl, sym, ap, ◌∙◌}
-use Prim.Native.Nat.{ℕ, zero, suc, ◌+◌, ◌*◌, ◌≤◌, ◌<◌}
+use Prim.Native.Nat.{ℕ, zero, suc, ◌+◌, ◌-◌, ◌*◌, ◌≤◌, ◌<◌}
 use native.Mathlib.Numerals.{add-one}
 use native.Mathlib.Omega.{arith}
 use mathlib.Core.Bool.{Bool, true, false, cond}
 use mathlib.Core.List.{List, [], ◌∷◌, map}
-use lib.ListN.{length, get_or, replicate, length-append, length-map, get_or-map}
-use lib.Dec.{eqb}
-use borrow.Author.Tests.{eq-eqb, ne_eqb, le-leb}
+use lib.ListN.{length, get_or, set, replicate, length-append, length-map, get_or-map}
+use lib.Dec.{eqb, leb}
+use borrow.Author.Tests.{leb-true, leb-false, ne_eqb, le-leb}
 use Rattle.rules.specs.Record.{Rec, rec, count, records}
 use Rattle.rules.specs.Numbers.{names}
 use Rattle.rules.specs.Instruction.{conditional, Op, jump, end, written, decode, ops}
@@ -26,9 +27,10 @@ use Rattle.laws.proofs.Records.{ops-length}
 use Rattle.laws.proofs.Instructions.{tabulate}
 use Rattle.laws.proofs.SecondLevel.{groups, each-length, groups_next, lowered, seconds_groups, renumber_zero, renumber_out}
 use Rattle.records.specs.Reading.{rec_at}
-use Rattle.records.proofs.Writing.{rec-get_or, copied}
-use Rattle.tables.specs.Tables.{filled}
-use Rattle.tables.proofs.Filling.{looked_zero, looked}
+use Rattle.records.proofs.Reading.{rec_zero, rec-none}
+use Rattle.records.proofs.Writing.{rec-get_or}
+use Rattle.tables.specs.Tables.{room, filled}
+use Rattle.tables.proofs.Filling.{Entries, begun, entered, last_entered, all_entered, looked_zero, looked}
 use Rattle.places.specs.declared.Stage.{Stage}
 use Rattle.places.specs.declared.Stage.TheVariants.{Labels, Calls, Loops, Conditionals}
 use Rattle.places.specs.Stages.{becomes, expanded, seconds_of, within, leads, kept, kept_by, Leading}
@@ -37,6 +39,14 @@ use Rattle.places.proofs.Forms.{forms, by_kind}
 pub op-get_or : (s : List ℕ) (k : ℕ) → k < count s → (z : Rec) → get_or (ops s) k (decode z) ≡ decode (rec_at s (suc k))
 unfolding ops
 op-get_or s k h z = get_or-map decode (records s) k z ∙ ap decode (rec-get_or s k h z)
+
+pub there : (s : List ℕ) (i : ℕ) {r : Rec} → r ≡ rec_at s i → ¬ (r.kind ≡ 0) → (1 ≤ i) × (i ≤ count s)
+there s i {r} e z = by i e z (leb i (count s)) refl
+  where
+    by : (i : ℕ) → r ≡ rec_at s i → ¬ (r.kind ≡ 0) → (b : Bool) → leb i (count s) ≡ b → (1 ≤ i) × (i ≤ count s)
+    by zero e z b q = absurd (z (ap (λ (r : Rec). r.kind) (e ∙ rec_zero s 0 refl)))
+    by (suc k) e z true q = (omega arith, leb-true (suc k) (count s) q)
+    by (suc k) e z false q = absurd (z (ap (λ (r : Rec). r.kind) (e ∙ rec-none s (suc k) (leb-false (suc k) (count s) q))))
 
 -- ## How long a group is
 
@@ -125,17 +135,43 @@ module _ (stage : Stage) (s : List ℕ) where
       by zero = rw e (looked_zero _ (count s) m f r) ∙ sym leads_zero
       by (suc k) = rw e (looked _ (count s) m f r leads_out (suc k) (omega arith))
 
-  pub kept-led : {t : List ℕ} → Leading stage s t → (r : Rec) → kept stage s r ≡ kept_by t r
+  pub kept_led : {t : List ℕ} → Leading stage s t → (r : Rec) → kept stage s r ≡ kept_by t r
   unfolding kept kept_by
-  kept-led u r = rw (u.led r.x)
+  kept_led u r = rw (u.led r.x)
 
--- ## A record that stays: kind, x and y are what was read of r
+-- ## The table, record by record
 
-module _ (t : List ℕ) (r : Rec) {kind x : ℕ} (e : kind ≡ r.kind) (f : x ≡ r.x) where
-  pub kept-jump : {k : ℕ} → k ≡ get_or t x 0 → kind ≡ 4 → kept_by t r ≡ rec 4 k 0
-  unfolding kept_by
-  kept-jump g h = rw (← e, eq-eqb kind 4 h, g, f)
+-- The table t is made from t₀. Before record i is reached it has where the records before it lead, which bring l of second level.
+pub record Counted (stage : Stage) (s t₀ : List ℕ) (i l : ℕ) (t : List ℕ) : Type 0 where
+  pub counted : l ≡ seconds (i - 1) (expanded stage (ops s))
+  pub small : l ≤ 20481 * (i - 1)
+  pub entries : Entries (leads stage s) 0 (i - 1) (count s) (set t₀ 0 0) t
 
-  pub kept_other : {y : ℕ} → y ≡ r.y → ¬ (kind ≡ 4) → kept_by t r ≡ rec kind x y
-  unfolding kept_by
-  kept_other g h = rw (ne_eqb r.kind 4 (λ q. h (e ∙ q))) (copied e f g)
+module _ (stage : Stage) (s t₀ : List ℕ) where
+  pub counted_none : {r : Bool} → r ≡ room (count s) t₀ → r ≡ true → Counted stage s t₀ 1 0 (set t₀ 0 0)
+  unfolding seconds
+  counted_none e q = record { counted = refl; small = omega arith; entries = begun _ 0 _ t₀ e q }
+
+  module _ {i l : ℕ} (a : 1 ≤ i) (b : i ≤ count s) {t : List ℕ} (u : Counted stage s t₀ i l t) where
+    leads_here : {v : ℕ} → v ≡ within (i + l) → v ≡ leads stage s i
+    leads_here g = let this : i ≡ (i - 1) + 1 = omega arith in g ∙ rw this (leads_in stage s (i - 1) (omega arith) u.counted)
+
+    module _ {q kind : ℕ} (k : kind ≡ (rec_at s i).kind) (e : q ≡ seconds_of stage (count s) kind) where
+      pub counted_sum : l + q ≤ 20481 * i
+      counted_sum = omega (arith, seconds_most stage (count s) kind, u.entries.short, u.small)
+
+      pub counted_one : {v : ℕ} → v ≡ within (i + l) → Counted stage s t₀ (i + 1) (l + q) (set t i v)
+      counted_one {v} g =
+          let this : i ≡ (i - 1) + 1 = omega arith in
+          let next : i + 1 - 1 ≡ i = omega arith in
+          record {
+            counted = rw (next, this) (seconds_on stage s (i - 1) (omega arith) u.counted (rw this at k) e);
+            small = rw next counted_sum;
+            entries = rw next (entered _ 0 i i v a b (leads_here g) (λ k a b z. (a, omega arith)) u.entries);
+          }
+
+    pub counted_last : {v : ℕ} → count s ≤ i → v ≡ within (i + l) → set t i v ≡ filled (leads stage s) (count s) t₀
+    counted_last {v} h g = last_entered _ (count s) i v t₀ t u.entries a b h (leads_here g)
+
+  pub counted_all : {i l : ℕ} {t : List ℕ} → count s < i → Counted stage s t₀ i l t → t ≡ filled (leads stage s) (count s) t₀
+  counted_all h u = all_entered _ t₀ refl (omega arith) u.entries

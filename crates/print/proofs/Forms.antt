@@ -1,37 +1,16 @@
 -- A form, as code fills it.
---     x-sign, y-sign, dot, other     what a sign stands for
---     form_none, form_turn, form_end     of a form j signs are printed: none; one more; all
+--     form_none, form_turn     of a form j signs are printed: none; one more
 use mathlib.Core.Path.{◌≡◌, refl, sym, ap, ◌∙◌}
-use Prim.Native.Nat.{ℕ, suc, ◌+◌, ◌-◌, ◌≤◌, ◌<◌}
+use Prim.Native.Nat.{ℕ, suc, ◌+◌, ◌-◌, ◌<◌}
 use native.Mathlib.Numerals.{add-one}
 use mathlib.Core.List.{List, [], ◌∷◌, ◌++◌, append-nil, append_assoc}
 use lib.ListN.{length, take, get_or}
-use lib.Seq.{take-suc, take_all}
-use borrow.Author.Tests.{ne_eqb}
+use lib.Seq.{take-suc}
 use borrow.Rule.Slice.PartMut.{put_mid}
 use Rattle.records.proofs.Writing.{rest}
-use Rattle.print.specs.Text.{decimal, filled_sign, filled}
+use Rattle.print.specs.Text.{filled_sign, filled}
 use Rattle.print.specs.Printing.{Printed}
 use Rattle.print.proofs.Printing.{print-none, print_more, print_as}
-
-module _ (x y p : ℕ) where
-  pub x-sign : p ≡ 120 → filled_sign x y p ≡ decimal x
-  unfolding filled_sign
-  x-sign h = rw h
-
-  module _ (a : ¬ (p ≡ 120)) where
-    pub y-sign : p ≡ 121 → filled_sign x y p ≡ decimal y
-    unfolding filled_sign
-    y-sign h = rw h
-
-    module _ (b : ¬ (p ≡ 121)) where
-      pub dot : p ≡ 46 → filled_sign x y p ≡ []
-      unfolding filled_sign
-      dot h = rw h
-
-      pub other : ¬ (p ≡ 46) → filled_sign x y p ≡ p ∷ []
-      unfolding filled_sign
-      other c = rw (ne_eqb p 120 a, ne_eqb p 121 b, ne_eqb p 46 c)
 
 filled_append : (f g : List ℕ) (x y : ℕ) → filled (f ++ g) x y ≡ filled f x y ++ filled g x y
 unfolding filled
@@ -50,6 +29,3 @@ module _ (f : List ℕ) (x y j : ℕ) {o w : List ℕ} {at : ℕ} (v : Printed (
   pub form_turn : j < length f → {ys : List ℕ} {k : ℕ} → Printed (filled_sign x y (get_or f j 0)) (rest w at) ys k
       → Printed (filled (take (j + 1) f) x y) o (put_mid at (length w - at) w ys) (at + k)
   form_turn h p = rw add-one (print_as (one_more h) (print_more v p))
-
-  pub form_end : length f ≤ j → Printed (filled f x y) o w at
-  form_end h = rw (take_all j f h) at v

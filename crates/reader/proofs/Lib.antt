@@ -1,4 +1,4 @@
-pub mod Labels
+pub mod Lookups
 pub mod Settled
 pub mod Loop
 pub mod Pages

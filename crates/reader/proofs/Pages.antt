@@ -9,7 +9,10 @@ use Rattle.rules.specs.Record.{Rec}
 use Rattle.laws.proofs.Records.{bytes_length}
 use Rattle.records.specs.Writing.{Put, Wrote}
 use Rattle.records.proofs.Writing.{rest, one, more}
-use Rattle.text.specs.declared.TextVerdict.TheVariants.{Done, Refused}
+use Rattle.std.specs.Prelude.{Ok, Err}
+use Rattle.std.specs.Result.{IsErrAnd}
+use Rattle.std.proofs.lemmas.Result.{err_from_is_err_and}
+use Rattle.text.specs.Answers.{TextVerdict}
 use Rattle.text.specs.declared.TextRefusal.{TextRefusal}
 use Rattle.text.specs.Reading.{Reading, reads, refused}
 use Rattle.reader.specs.Pages.{Kept, Keeps, ReadTo}
@@ -36,9 +39,12 @@ module _ (n : ℕ) (r : Rec) (w : List ℕ) where
   passes h = (refl, λ rs o e k le. absurd (omega (arith, one_more rs r n e)))
 
 module _ {q : Reading} {o w : List ℕ} (same : length w ≡ length o) where
-  pub read_to : (rs : List Rec) (n : ℕ) → q ≡ reads rs → n ≡ length rs → Kept rs o w → ReadTo q o (Done n) w
+  pub read_to : (rs : List Rec) (n : ℕ) → q ≡ reads rs → n ≡ length rs → Kept rs o w → ReadTo q o (Ok n) w
   read_to rs n e m h =
-      subst (λ (q : Reading). ReadTo q o (Done n) w) (sym e) (record { answers = ap Done m; holds = h; same = same })
+      subst (λ (q : Reading). ReadTo q o (Ok n) w) (sym e) (record { answers = ap Ok m; holds = h; same = same })
 
-  pub read-bad : (r : TextRefusal) → q ≡ refused r → ReadTo q o (Refused r) w
-  read-bad r e = subst (λ (q : Reading). ReadTo q o (Refused r) w) (sym e) (record { answers = refl; holds = tt; same = same })
+  pub read-bad : (r : TextRefusal) (y : TextVerdict) → q ≡ refused r → IsErrAnd y (λ t. t ≡ r) → ReadTo q o y w
+  read-bad r y e h =
+      let p = err_from_is_err_and y h in
+      let i : y ≡ Err r = p.1 ∙ ap Err p.2 in
+      rw i (subst (λ (q : Reading). ReadTo q o (Err r) w) (sym e) (record { answers = refl; holds = tt; same = same }))

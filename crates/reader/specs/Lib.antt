@@ -1,3 +1,2 @@
-pub mod Labels
 pub mod Steps
 pub mod Pages

@@ -1,11 +1,9 @@
 -- The page that the records of a text are read to, since a refused text writes nothing to the output.
-use Rattle.std.specs.Prelude.{◌≡◌, ◌≤◌, ◌*◌, ◌∷◌, ◌++◌}
+use Rattle.std.specs.Prelude.{◌≡◌, ◌≤◌, ◌*◌, ◌∷◌, ◌++◌, Ok, Err}
 use Rattle.rules.specs.Words.{ℕ, List, [], length, drop}
 use Rattle.rules.specs.Record.{Rec, bytes_of}
-use Rattle.text.specs.declared.TextVerdict.{TextVerdict}
-use Rattle.text.specs.declared.TextVerdict.TheVariants.{Done, Refused}
+use Rattle.text.specs.Answers.{TextVerdict, fits, records_read, Answered}
 use Rattle.text.specs.Reading.{Reading, reads, refused}
-use Rattle.text.specs.Answers.{fits, records_read, Answered}
 
 -- The records at the start of the page, which was o, if they are no more than 512.
 abbrev pub Kept : List Rec → List ℕ → List ℕ → Type 0
@@ -17,8 +15,8 @@ Keeps n r w w' = (length w' ≡ length w) × ((rs : List Rec) (o : List ℕ) →
 
 -- How many records, or the refusal.
 abbrev pub counted : Reading → TextVerdict
-counted (reads rs) = Done (length rs)
-counted (refused r) = Refused r
+counted (reads rs) = Ok (length rs)
+counted (refused r) = Err r
 
 abbrev pub Held : Reading → List ℕ → List ℕ → Type 0
 Held (reads rs) o w = Kept rs o w
@@ -29,6 +27,6 @@ pub record ReadTo (q : Reading) (o : List ℕ) (r : TextVerdict) (w : List ℕ) 
   pub holds : Held q o w
   pub same : length w ≡ length o
 
--- What the pass over a text answered and left on the page is handed on as the answer to the text.
-abbrev pub HandedOn : TextVerdict → List ℕ → List ℕ → TextVerdict → List ℕ → Type 0
-HandedOn all w out r out' = (q : Reading) (o : List ℕ) → ReadTo q o all w → Answered (fits q out) (bytes_of (records_read q)) out r out'
+-- The n records that the pass over a text left on the page are handed on as the answer to the text.
+abbrev pub HandedOn : ℕ → List ℕ → List ℕ → TextVerdict → List ℕ → Type 0
+HandedOn n w out r out' = (q : Reading) (o : List ℕ) → ReadTo q o (Ok n) w → Answered (fits q out) (bytes_of (records_read q)) out r out'

@@ -1,44 +1,32 @@
--- What the code's answer for one instruction means.
-use Rattle.std.specs.Prelude.{◌≡◌, ◌≤◌, ◌<◌, ◌+◌}
-use Rattle.rules.specs.Words.{ℕ, true, cond, List, length, eqb}
-use Rattle.rules.specs.Record.{rec}
+-- What the code's answers for one instruction mean.
+use Rattle.std.specs.Prelude.{◌≡◌, ◌≤◌, ◌<◌, ◌+◌, Result, Ok, Err}
+use Rattle.rules.specs.Words.{ℕ, cond, List, length}
+use Rattle.rules.specs.Record.{Rec}
 use Rattle.text.specs.declared.Fit.{Fit}
+use Rattle.text.specs.declared.TextRefusal.{TextRefusal}
 use Rattle.text.specs.declared.TextRefusal.TheVariants.{Text}
-use Rattle.text.specs.Reading.{Next, made, bad, next_of}
-use Rattle.reader.specs.declared.Step.{Step}
-use Rattle.reader.specs.declared.Step.TheVariants.{Made, Bad}
+use Rattle.text.specs.Reading.{Next, made, bad, form_record, with_label_at, next_of}
 use Rattle.label_numbers.specs.Labels.{labels_of}
 
--- The definition's next instruction, where the labels' places are f.
-abbrev pub meant : List ℕ → Step → List ℕ → Next
-meant w (Made kind x y e c) f = made (rec kind x y) (labels_of w c f) e
-meant w (Bad r) f = bad r
+-- What comes after an answer, or its refusal.
+abbrev pub after : {A : Type 0} → Result A TextRefusal → (A → Next) → Next
+after (Ok v) on = on v
+after (Err r) on = bad r
 
--- With all names known.
-unfoldable pub settled_step : Fit → ℕ → ℕ → ℕ → Step
-settled_step f x y c =
-    cond f.whole (cond (eqb f.form 17) (Made 4 0 0 f.far c) (Made f.form x y f.far c)) (Bad (Text (f.far + 1)))
+-- With all numbers known: the record and the place behind it.
+unfoldable pub settled_step : Fit → ℕ → ℕ → Result (Rec × ℕ) TextRefusal
+settled_step f x y = cond f.whole (Ok (form_record f.form x y, f.far)) (Err (Text (f.far + 1)))
 
--- Where an instruction was made: its form is whole, and there is room for the labels' places.
-abbrev pub Sound : Step → Fit → List ℕ → Type 0
-Sound (Made kind x y e c) f p = (f.whole ≡ true) × (e ≡ f.far) × (c ≤ 999) × (length p ≡ 999)
-Sound (Bad r) f p = Unit {0}
+-- The label at p has the number that is answered, and a new one was kept: the places p of the labels so far became p'.
+abbrev pub Labelled : List ℕ → List ℕ → ℕ → Result ℕ TextRefusal → List ℕ → Type 0
+Labelled w f p r f' = (on : ℕ → List (List ℕ) → Next) → after r (λ v. on v (labels_of w f')) ≡ with_label_at w (labels_of w f) p on
 
--- The code answers r for the instruction n of the form f, with the labels' places p, of which there are c, and then p'.
-pub record StepBy (n : List (List ℕ) → Next) (w : List ℕ) (f : Fit) (p : List ℕ) (c : ℕ) (r : Step) (p' : List ℕ) : Type 0 where
-  pub next : meant w r p' ≡ n (labels_of w c p)
-  pub sound : Sound r f p'
-
--- The same without a new label.
-abbrev pub StepsBy : (List (List ℕ) → Next) → List ℕ → Fit → ℕ → Step → Type 0
-StepsBy n w f c r = (p : List ℕ) → length p ≡ 999 → StepBy n w f p c r p
-
--- Where an instruction was made: it took a byte, and there is room for the labels' places.
-abbrev pub Ahead : Step → List ℕ → ℕ → List ℕ → Type 0
-Ahead (Made kind x y e c) w at p = (at < e) × (e ≤ length w + 1) × (c ≤ 999) × (length p ≡ 999)
-Ahead (Bad r) w at p = Unit {0}
+-- Where an instruction was made: it took a byte.
+abbrev pub Ahead : Result (Rec × ℕ) TextRefusal → List ℕ → ℕ → Type 0
+Ahead (Ok m) w at = (at < m.1) × (m.1 ≤ length w + 1)
+Ahead (Err r) w at = Unit {0}
 
 -- One instruction by the code.
-pub record Stepped (w : List ℕ) (es : List (List ℕ)) (p : List ℕ) (c at : ℕ) (r : Step) (p' : List ℕ) : Type 0 where
-  pub next : meant w r p' ≡ next_of w es (labels_of w c p) at
-  pub ahead : Ahead r w at p'
+pub record Stepped (w : List ℕ) (es : List (List ℕ)) (f : List ℕ) (at : ℕ) (r : Result (Rec × ℕ) TextRefusal) (f' : List ℕ) : Type 0 where
+  pub next : after r (λ m. made m.0 (labels_of w f') m.1) ≡ next_of w es (labels_of w f) at
+  pub ahead : Ahead r w at

@@ -1,171 +1,160 @@
 // A typed routine read to its records.
 #![tactic(auto)]
 
-ghost use Rattle.std.specs.Prelude.{◌≡◌, ◌++◌, ◌+◌, ◌≤◌, ◌<◌, length, drop};
-ghost use Rattle.rules.specs.Record.{rec};
+ghost use Rattle.std.specs.Prelude.{◌≡◌, ◌≤◌, ◌<◌, length, take};
+ghost use Rattle.text.specs.Forms.{letter_of};
 ghost use Rattle.text.specs.Names.{entries};
-ghost use Rattle.text.specs.Reading.{settled, with_action, with_number, with_label_at, with_second, read_text};
+ghost use Rattle.text.specs.Reading.{Next, form_record, settled, named, with_action, with_number, read_text};
 ghost use Rattle.text.specs.Answers.{reading, bytes_read, Answered};
+ghost use Rattle.label_numbers.specs.Labels.{labels_of};
 ghost use Rattle.name_index.specs.Index.{Indexed};
-ghost use Rattle.reader.specs.Labels.{Labelled};
-ghost use Rattle.reader.specs.Steps.{settled_step, StepBy, StepsBy, Stepped};
+ghost use Rattle.reader.specs.Steps.{after, settled_step, Labelled, Stepped};
 ghost use Rattle.reader.specs.Pages.{Keeps, ReadTo, HandedOn};
 
 use forms::best;
 use label_numbers::label_number;
 use name_index::{fill_index, indexed_action};
-use names::number_at;
-use records::put_record;
-use rules::Refusal;
+use names::{list_fault, number_at};
+use records::{jump, put_record};
+use rules::{Record, Refusal};
 use runs::span_of;
 use signs::letter_of;
 use text::{Fit, Sort, TextRefusal, TextVerdict};
 
-// A label's number, 0 for the thousandth, and how many labels there then are.
+// The list of names and its index.
 #[derive(Clone, Copy)]
-pub struct Numbered {
-    pub number: usize,
-    pub count: usize,
+struct Actions<'a> {
+    list: &'a [u8],
+    heads: &'a [u16],
+    links: &'a [u16],
+    ghost few: { length list.now < 16000 },
+    ghost indexed: { Indexed (entries list.now) heads.now links.now },
 }
 
-// The next instruction: kind, x, y, the place behind it, how many labels there are; or why the text is turned away.
-#[derive(Clone, Copy)]
-pub enum Step {
-    Made(u8, u16, u16, usize, usize),
-    Bad(TextRefusal),
+impl Actions<'_> {
+    // The number of the action whose name is at p, from 1; 0 where p is 0, since the text does not come so far. It is at most 999, which is
+    // proved at the cast, as a label's below: `try_from` would add an arm that never runs.
+    fn number(&self, s: &[u8], p: usize) -> Result<u16, TextRefusal>
+        ensures { (on : _ → Next) → after result on ≡ with_action s.now (entries self.now.list.now) p on }
+    {
+        if p == 0 {
+            return Ok(0);
+        }
+        match indexed_action(self.list, self.heads, self.links, s, p - 1) {
+            Some(x) => Ok(x as u16),
+            None => Err(TextRefusal::Name(p)),
+        }
+    }
 }
 
-// The label at `at`: a new one is kept, but for the thousandth.
-fn label(s: &[u8], firsts: &mut [usize], count: usize, at: usize) -> Numbered
-    requires { (count ≤ 999) × (length firsts.old ≡ 999) }
-    ensures { Labelled s.now firsts.old count at result firsts.new }
+// The labels so far, by the places where they first stood: the first `count` of these.
+#[derive(Drop)]
+struct Labels {
+    firsts: [usize; 999],
+    count: usize,
+    ghost few: { count ≤ 999 },
+}
+
+impl Labels {
+    // The number of the label at p, from 1; 0 where p is 0. A new one is kept, but for the thousandth.
+    fn number(&mut self, s: &[u8], p: usize) -> Result<u16, TextRefusal>
+        ensures { Labelled s.now (take self.old.count self.old.firsts) p result (take self.new.count self.new.firsts) }
+    {
+        if p == 0 {
+            return Ok(0);
+        }
+        if let Some(x) = label_number(s, &self.firsts[..self.count], p - 1) {
+            return Ok(x as u16);
+        }
+        if self.count == 999 {
+            return Err(TextRefusal::Name(p));
+        }
+        self.firsts[self.count] = p - 1;
+        self.count += 1;
+        Ok(self.count as u16)
+    }
+}
+
+// The number whose digits start at p, from 1; 0 where p is 0.
+#[tactic(auto, unfolding(text::specs::Reading::with_number))]
+fn number(s: &[u8], p: usize) -> u16
+    ensures { (on : _ → Next) → on result ≡ with_number s.now p on }
 {
-    let number = label_number(s, firsts, count, at);
-    if number != 0 {
-        return Numbered { number, count };
-    }
-    if count == 999 {
-        return Numbered { number: 0, count };
-    }
-    firsts[count] = at;
-    Numbered {
-        number: count + 1,
-        count: count + 1,
+    if p == 0 { 0 } else { number_at(s, p - 1) }
+}
+
+// The numbers of a form's names.
+fn numbers(
+    f: Fit,
+    s: &[u8],
+    actions: &Actions<'_>,
+    labels: &mut Labels,
+) -> Result<(u16, u16), TextRefusal>
+    ensures { after result (λ n. settled f n.0 n.1 (labels_of s.now (take labels.new.count labels.new.firsts))) ≡ named (letter_of f.form) s.now (entries actions.now.list.now) (labels_of s.now (take labels.old.count labels.old.firsts)) f }
+{
+    match letter_of(f.form) {
+        b'a' => Ok((actions.number(s, f.x)?, 0)),
+        b'k' => Ok((number(s, f.x), 0)),
+        b's' => {
+            let x = labels.number(s, f.x)?;
+            let y = labels.number(s, f.y)?;
+            Ok((x, y))
+        }
+        _ => Ok((0, 0)),
     }
 }
 
-// With its names known: the record where the form is whole, else 12.
-fn settle(f: Fit, x: u16, y: u16, count: usize) -> Step
+// The record of a form: form 17, `!`, is ##0.
+#[tactic(auto, unfolding(text::specs::Reading::form_record))]
+fn record_of(form: usize, x: u16, y: u16) -> Record
+    requires { form ≤ 17 }
+    ensures { result ≡ form_record form x y }
+{
+    match form {
+        17 => jump(0),
+        _ => Record {
+            kind: form as u8,
+            x,
+            y,
+        },
+    }
+}
+
+// With its numbers known: the record where the form is whole, and the place behind it; else 12.
+#[tactic(auto, unfolding(crate::specs::Steps::settled_step))]
+fn settle(f: Fit, x: u16, y: u16) -> Result<(Record, usize), TextRefusal>
     requires { (f.form ≤ 17) × (f.far < 18446744073709551615) }
-    ensures { result ≡ settled_step f x y count }
+    ensures { result ≡ settled_step f x y }
 {
-    if !f.whole {
-        return Step::Bad(TextRefusal::Text(f.far + 1));
+    if f.whole {
+        Ok((record_of(f.form, x, y), f.far))
+    } else {
+        Err(TextRefusal::Text(f.far + 1))
     }
-    if f.form == 17 {
-        return Step::Made(4, 0, 0, f.far, count);
-    }
-    Step::Made(f.form as u8, x, y, f.far, count)
 }
 
-// A form whose name is an action's.
-fn with_action(f: Fit, s: &[u8], l: &[u8], heads: &[u16], links: &[u16], count: usize) -> Step
-    requires form_bound { (f.form ≤ 17) × (f.far ≤ length s.now + 1) × (count ≤ 999) × (length l.now < 16000) }
-    requires indexed { Indexed (entries l.now) heads.now links.now }
-    ensures { StepsBy (λ us. with_action s.now (entries l.now) f.x (λ x. settled f x 0 us)) s.now f count result }
-{
-    let p = f.x;
-    if p == 0 {
-        return settle(f, 0, 0, count);
-    }
-    let x = indexed_action(l, heads, links, s, p - 1);
-    if x == 0 {
-        return Step::Bad(TextRefusal::Name(p));
-    }
-    settle(f, x as u16, 0, count)
-}
-
-// A form that has a number.
-fn with_number(f: Fit, s: &[u8], count: usize) -> Step
-    requires { (f.form ≤ 17) × (f.far ≤ length s.now + 1) × (count ≤ 999) }
-    ensures { StepsBy (λ us. with_number s.now f.x (λ x. settled f x 0 us)) s.now f count result }
-{
-    let p = f.x;
-    if p == 0 {
-        return settle(f, 0, 0, count);
-    }
-    settle(f, number_at(s, p - 1), 0, count)
-}
-
-// The second label, where the first has number x.
-fn with_second(f: Fit, s: &[u8], firsts: &mut [usize], count: usize, x: u16) -> Step
-    requires { (f.form ≤ 17) × (f.far ≤ length s.now + 1) × (count ≤ 999) × (length firsts.old ≡ 999) }
-    ensures { StepBy (with_second s.now f x) s.now f firsts.old count result firsts.new }
-{
-    let p = f.y;
-    if p == 0 {
-        return settle(f, x, 0, count);
-    }
-    let y = label(s, firsts, count, p - 1);
-    if y.number == 0 {
-        return Step::Bad(TextRefusal::Name(p));
-    }
-    settle(f, x, y.number as u16, y.count)
-}
-
-// A form with labels.
-fn with_labels(f: Fit, s: &[u8], firsts: &mut [usize], count: usize) -> Step
-    requires { (f.form ≤ 17) × (f.far ≤ length s.now + 1) × (count ≤ 999) × (length firsts.old ≡ 999) }
-    ensures { StepBy (λ us. with_label_at s.now us f.x (λ x us'. with_second s.now f x us')) s.now f firsts.old count result firsts.new }
-{
-    let p = f.x;
-    if p == 0 {
-        return with_second(f, s, firsts, count, 0);
-    }
-    let x = label(s, firsts, count, p - 1);
-    if x.number == 0 {
-        return Step::Bad(TextRefusal::Name(p));
-    }
-    with_second(f, s, firsts, x.count, x.number as u16)
-}
-
-// The next instruction of the text from `at` on.
+// The next instruction of the text from `at` on, and the place behind it.
 fn next(
     s: &[u8],
-    l: &[u8],
-    heads: &[u16],
-    links: &[u16],
-    firsts: &mut [usize],
-    count: usize,
+    actions: &Actions<'_>,
+    labels: &mut Labels,
     at: usize,
-) -> Step
-    requires at_in_bounds { (at ≤ length s.now) × (count ≤ 999) × (length firsts.old ≡ 999) × (length l.now < 16000) }
-    requires indexed { Indexed (entries l.now) heads.now links.now }
-    ensures { Stepped s.now (entries l.now) firsts.old count at result firsts.new }
+) -> Result<(Record, usize), TextRefusal>
+    requires { at ≤ length s.now }
+    ensures { Stepped s.now (entries actions.now.list.now) (take labels.old.count labels.old.firsts) at result (take labels.new.count labels.new.firsts) }
 {
-    let from = at + span_of(Sort::Blank, s, at, s.len());
-    let f = best(s, from);
-    let letter = letter_of(f.form);
-    if letter == b'a' {
-        return with_action(f, s, l, heads, links, count);
-    }
-    if letter == b'k' {
-        return with_number(f, s, count);
-    }
-    if letter == b's' {
-        return with_labels(f, s, firsts, count);
-    }
-    settle(f, 0, 0, count)
+    let f = best(s, at + span_of(Sort::Blank, s, at, s.len()));
+    let (x, y) = numbers(f, s, actions, labels)?;
+    settle(f, x, y)
 }
 
 // Record number n, from 0, into a page that has room for 512.
-fn keep(page: &mut [u8], n: usize, kind: u8, x: u16, y: u16)
+fn keep(page: &mut [u8], n: usize, r: Record)
     requires { 4096 ≤ length page.old }
-    ensures { Keeps n (rec kind x y) page.old page.new }
+    ensures { Keeps n r page.old page.new }
 {
     if n < 512 {
-        let from = 8 * n;
-        put_record(&mut page[from..], kind, x, y);
+        put_record(&mut page[8 * n..], r);
     }
 }
 
@@ -175,64 +164,47 @@ fn read_all(s: &[u8], l: &[u8], page: &mut [u8]) -> TextVerdict
     ensures { ReadTo (read_text s.now (entries l.now)) page.old result page.new }
 {
     if span_of(Sort::Blank, s, 0, s.len()) == s.len() {
-        return TextVerdict::Done(0);
+        return Ok(0);
     }
     let mut heads = [0u16; 512];
     let mut links = [0u16; 1000];
     fill_index(l, &mut heads, &mut links);
-    let mut firsts = [0usize; 999];
-    let mut count = 0;
+    let actions = Actions {
+        list: l,
+        heads: &heads,
+        links: &links,
+    };
+    let mut labels = Labels {
+        firsts: [0; 999],
+        count: 0,
+    };
     let mut at = 0;
     let mut n = 0;
+    // No `for`: where the next instruction starts, the one before it says.
     loop {
-        let step = next(s, l, &heads, &links, &mut firsts, count, at);
-        match step {
-            Step::Made(kind, x, y, e, c) => {
-                keep(page, n, kind, x, y);
-                n += 1;
-                if s.len() < e {
-                    return TextVerdict::Done(n);
-                }
-                at = e;
-                count = c;
-            }
-            Step::Bad(refusal) => {
-                return TextVerdict::Refused(refusal);
-            }
+        let (record, end) = next(s, &actions, &mut labels, at)?;
+        keep(page, n, record);
+        n += 1;
+        if s.len() < end {
+            return Ok(n);
         }
+        at = end;
     }
 }
 
-// The bytes at the start of the output.
-fn copy(from: &[u8], out: &mut [u8])
-    requires { length from.now ≤ length out.old }
-    ensures { out.new ≡ from.now ++ drop (length from.now) out.old }
-{
-    let mut i = 0;
-    while i < from.len() {
-        out[i] = from[i];
-        i += 1;
-    }
-}
-
-// The records on the page to the output, where they are not too many; the answer to the pass that read them.
-fn put_page(all: TextVerdict, page: &[u8], out: &mut [u8]) -> TextVerdict
+// The first n records on the page to the output, where they are not too many.
+fn put_page(n: usize, page: &[u8], out: &mut [u8]) -> TextVerdict
     requires { length page.now ≡ 4096 }
-    ensures { HandedOn all page.now out.old result out.new }
+    ensures { HandedOn n page.now out.old result out.new }
 {
-    match all {
-        TextVerdict::Refused(refusal) => TextVerdict::Refused(refusal),
-        TextVerdict::Done(n) => {
-            if 512 < n {
-                return TextVerdict::Refused(TextRefusal::Earlier(Refusal::Long));
-            }
-            if out.len() < 8 * n {
-                return TextVerdict::Refused(TextRefusal::Earlier(Refusal::Room));
-            }
-            copy(&page[..8 * n], out);
-            TextVerdict::Done(n)
-        }
+    if 512 < n {
+        return Err(Refusal::Long.into());
     }
+    if out.len() < 8 * n {
+        return Err(Refusal::Room.into());
+    }
+    out[..8 * n].copy_from_slice(&page[..8 * n]);
+    Ok(n)
 }
 
 // A typed routine read to records, in the first 8 bytes each of the output. Refusals: 13 at 0 for a list of names that is ragged or
@@ -240,14 +212,10 @@ fn put_page(all: TextVerdict, page: &[u8], out: &mut [u8]) -> TextVerdict
 pub fn read_text(text: &[u8], names: &[u8], out: &mut [u8]) -> TextVerdict
     ensures { Answered (reading text.now names.now out.old) (bytes_read text.now names.now) out.old result out.new }
 {
-    let length = names.len();
-    if length % 16 != 0 {
-        return TextVerdict::Refused(TextRefusal::Name(0));
-    }
-    if 999 < length / 16 {
-        return TextVerdict::Refused(TextRefusal::Name(0));
+    if list_fault(names) {
+        return Err(TextRefusal::Name(0));
     }
     let mut page = [0u8; 4096];
-    let all = read_all(text, names, &mut page);
-    put_page(all, &page, out)
+    let n = read_all(text, names, &mut page)?;
+    put_page(n, &page, out)
 }

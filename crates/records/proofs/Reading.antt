@@ -3,9 +3,8 @@ use mathlib.Core.Path.{◌≡◌, refl, ap}
 use Prim.Native.Nat.{ℕ, zero, suc, ◌-◌, ◌≤◌, ◌<◌}
 use native.Mathlib.Omega.{arith}
 use mathlib.Core.List.{List}
-use Rattle.rules.specs.Record.{rec, count}
+use Rattle.rules.specs.Record.{rec, count, records}
 use Rattle.laws.proofs.Records.{at_zero, record_at, records-at, records-none}
-use Rattle.rules.specs.Record.{records}
 use Rattle.records.specs.Reading.{or_nothing, rec_at}
 
 module _ (s : List ℕ) (i : ℕ) where
@@ -21,3 +20,5 @@ pub rec_at_lem : (s : List ℕ) (i : ℕ) → ¬ (i ≡ 0) → i ≤ count s →
 unfolding rec_at or_nothing
 rec_at_lem s zero z h = absurd (z refl)
 rec_at_lem s (suc k) z h = let e : suc k - 1 ≡ k = omega arith in rw e (ap or_nothing (records-at s k (omega arith)))
+
+pub ruleset reading = (rec_zero, rec-none, rec_at_lem)

@@ -1,14 +1,10 @@
 -- Writing into the unwritten rest of an output, lent on as `&mut w[at..]`: the same few laws for every writer of records.
 --     put_rest     what the whole holds when the rest comes back
---     eight, put, one, wrote_as, wrote_length, more     one record, where it has its room; the same records by another name; a writer's records behind those written before
---     Written      the invariant of a loop that writes the groups of records 1 to n, each into the rest: after i of them
---     start, room_for, turn, finish     at the start; the next group has its room; one group more; at the end
+--     eight, put, one, wrote_length, more     one record, where it has its room; a writer's records behind those written before
 --     filled_by    what a call that succeeds leaves in its output
---     singles      groups of one record each
---     copied, rec-get_or, rec-drop, each-records     the records that a loop reads by their numbers
+--     rec-get_or, rec-drop, each-records     the records that a loop reads by their numbers
 use mathlib.Core.Path.{◌≡◌, refl, sym, ap, ◌∙◌}
-use Prim.Native.Nat.{ℕ, zero, suc, ◌+◌, ◌-◌, ◌*◌, ◌≤◌, ◌<◌}
-use native.Mathlib.Numerals.{add-one}
+use Prim.Native.Nat.{ℕ, suc, ◌+◌, ◌-◌, ◌*◌, ◌≤◌, ◌<◌}
 use native.Mathlib.Omega.{arith}
 use mathlib.Core.Bool.{Bool, true, false, cond}
 use mathlib.Core.List.{List, [], ◌∷◌, ◌++◌, append-nil, append_assoc}
@@ -17,13 +13,13 @@ use lib.Seq.{take_at, drop_at, take_all, drop-drop, drop-cons}
 use lib.Dec.{leb}
 use borrow.Rule.Slice.PartMut.{put_mid}
 use borrow.Author.Tests.{le-leb}
-use Rattle.rules.specs.declared.Verdict.{Verdict}
-use Rattle.rules.specs.declared.Verdict.TheVariants.{Accepted}
+use Rattle.rules.specs.Refusals.{Verdict}
+use Rattle.std.specs.Prelude.{Ok}
 use Rattle.rules.specs.Answers.{filled}
 use Rattle.rules.specs.Record.{Rec, rec, record_bytes, bytes_of, count, records}
 use Rattle.rules.specs.Numbers.{each}
 use Rattle.laws.proofs.Records.{bytes_append, bytes_length, records-length, records-get_or, records-at}
-use Rattle.laws.proofs.SecondLevel.{groups, groups_ext, groups_room, each_groups}
+use Rattle.laws.proofs.SecondLevel.{groups, groups_ext, each_groups}
 use Rattle.records.specs.Reading.{or_nothing, rec_at}
 use Rattle.records.specs.Writing.{Put, Wrote}
 
@@ -55,9 +51,6 @@ put {q} {r} {o} {w} {k} e p h = record { count = h; holds = rw (h, e) (p.holds �
 pub one : {q r : Rec} {o w : List ℕ} {k : ℕ} → q ≡ r → Put r o w k → 8 ≤ length o → Wrote (q ∷ []) o w k
 one e p room = put e p (eight p room)
 
-pub wrote_as : {f g : List Rec} {o w : List ℕ} {k : ℕ} → f ≡ g → Wrote g o w k → Wrote f o w k
-wrote_as e w = rw e w
-
 pub wrote_length : {g : List Rec} {o w : List ℕ} {k : ℕ} → Wrote g o w k → k ≡ 8 * length g
 wrote_length {g} w = w.count ∙ bytes_length g
 
@@ -69,46 +62,13 @@ more {rs} {g} {o} {w} {ys} {at} {k} v u = record {
       ∙ ap (λ (l : List ℕ). l ++ drop (at + k) o) (sym (bytes_append rs g));
 }
 
-pub record Written (f : ℕ → List Rec) (n : ℕ) (o w : List ℕ) (at i : ℕ) : Type 0 where
-  pub done : i ≤ n
-  pub wrote : Wrote (groups f i) o w at
-  pub same : length w ≡ length o
-
-pub start : (f : ℕ → List Rec) (n : ℕ) (o : List ℕ) → Written f n o o 0 0
-unfolding groups
-start f n o = record { done = omega arith; wrote = record { count = refl; holds = refl }; same = refl }
-
-module _ {f : ℕ → List Rec} {n : ℕ} {o w : List ℕ} {at i : ℕ} (v : Written f n o w at i) where
-  pub room_for : 8 * length (groups f n) ≤ length o → i < n → at + 8 * length (f (i + 1)) ≤ length w
-  room_for room lt = rw add-one (omega (arith, groups_room f i n lt, v.wrote.count, bytes_length (groups f i), v.same))
-
-  pub turn : {k : ℕ} {ys : List ℕ} → i < n → Wrote (f (i + 1)) (rest w at) ys k → length (put_mid at (length w - at) w ys) ≡ length w
-      → Written f n o (put_mid at (length w - at) w ys) (at + k) (i + 1)
-  unfolding groups
-  turn lt u same = record {
-    done = omega arith;
-    wrote = rw add-one (more v.wrote (rw add-one at u));
-    same = same ∙ v.same;
-  }
-
-  pub finish : n ≤ i → Wrote (groups f n) o w at
-  finish le = let e : i ≡ n = omega (arith, v.done) in rw e at v.wrote
-
-pub filled_by : {v : Verdict} {n : ℕ} {rs : List Rec} {o w : List ℕ} {k : ℕ} → v ≡ Accepted n → n ≡ length rs → Wrote rs o w k → w ≡ filled v rs o
+pub filled_by : {v : Verdict} {n : ℕ} {rs : List Rec} {o w : List ℕ} {k : ℕ} → v ≡ Ok n → n ≡ length rs → Wrote rs o w k → w ≡ filled v rs o
 unfolding filled
 filled_by {v} {n} {rs} {o} {w} {k} e l u =
     let h : k ≡ 8 * n = omega (arith, u.count, bytes_length rs) in
     rw e (rw h at u.holds)
 
-pub singles : (g : ℕ → Rec) (n : ℕ) → length (groups (λ i. g i ∷ []) n) ≡ n
-unfolding groups
-singles g zero = refl
-singles g (suc n) = omega (arith, length-append (groups (λ i. g i ∷ []) n) (g (suc n) ∷ []), singles g n)
-
 -- ## The records that a loop reads by their numbers
-
-pub copied : {r : Rec} {k x y : ℕ} → k ≡ r.kind → x ≡ r.x → y ≡ r.y → r ≡ rec k x y
-copied ek ex ey = rw (ek, ex, ey)
 
 module _ (s : List ℕ) where
   module _ (k : ℕ) (h : k < count s) where

@@ -1,12 +1,14 @@
-// The paper's number and place of each refusal.
+// The paper's numbers: of a refusal, its place, and of a status.
 #![tactic(auto)]
 
 ghost use Rattle.std.specs.Prelude.{◌≡◌};
 ghost use Rattle.rules.specs.Refusals.{told};
+ghost use Rattle.rules.specs.Run.{status_number};
 
-use rules::Refusal;
+use rules::{Refusal, Status};
 
 // The paper's number of a refusal.
+#[tactic(auto, unfolding(rules::specs::Refusals::told))]
 pub fn number_of(refusal: Refusal) -> usize
     ensures { result ≡ (told refusal).number }
 {
@@ -26,22 +28,33 @@ pub fn number_of(refusal: Refusal) -> usize
     }
 }
 
-// Its place: of a record, or of a reply byte, from 1; else 0.
+// Its place: of a record, or of a reply byte, from 1; else 0, as the paper's table has it and C is told.
+#[tactic(auto, unfolding(rules::specs::Refusals::told))]
 pub fn place_of(refusal: Refusal) -> usize
     ensures { result ≡ (told refusal).place }
 {
     match refusal {
-        Refusal::Ragged => 0,
-        Refusal::Long => 0,
-        Refusal::Kind(place) => place,
-        Refusal::Field(place) => place,
-        Refusal::Nesting(place) => place,
-        Refusal::Skip(place) => place,
-        Refusal::Growth => 0,
-        Refusal::Room => 0,
-        Refusal::Reply(place) => place,
-        Refusal::State => 0,
-        Refusal::Far(place) => place,
-        Refusal::Label(place) => place,
+        Refusal::Kind(place)
+        | Refusal::Field(place)
+        | Refusal::Nesting(place)
+        | Refusal::Skip(place)
+        | Refusal::Reply(place)
+        | Refusal::Far(place)
+        | Refusal::Label(place) => place,
+        Refusal::Ragged | Refusal::Long | Refusal::Growth | Refusal::Room | Refusal::State => 0,
+    }
+}
+
+// The paper's number of a status.
+#[tactic(auto, unfolding(rules::specs::Run::status_number))]
+pub fn status_number(status: Status) -> u32
+    ensures { result ≡ status_number status }
+{
+    match status {
+        Status::Ended => 1,
+        Status::NoReply => 2,
+        Status::LogFull => 3,
+        Status::StackFull => 4,
+        Status::Spent => 5,
     }
 }

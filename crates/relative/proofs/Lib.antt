@@ -1,3 +1,4 @@
+pub mod Turning
 pub mod Jumps
 pub mod Translations
 pub mod Once

@@ -1,14 +1,12 @@
 -- Rows of our own beside the paper's table: what the paper says in words and its table does not try, what to write instead of a routine
 -- that is refused 6, and the incident.
 use mathlib.Core.Path.{◌≡◌}
-use Rattle.std.specs.Prelude.{◌∷◌}
+use Rattle.std.specs.Prelude.{◌∷◌, Ok, Err}
 use Rattle.rules.specs.Words.{ℕ, true, false, List, [], map, replicate}
 use Rattle.rules.specs.declared.Refusal.TheVariants.{Ragged, Long, Kind, Field, Nesting, Skip, Growth, Room, Reply, Far, Label}
 use Rattle.rules.specs.declared.Refusal.TheVariants as refusal
-use Rattle.rules.specs.declared.Verdict.TheVariants.{Accepted, Refused}
 use Rattle.rules.specs.declared.Status.TheVariants.{Ended, NoReply, LogFull, StackFull, Spent}
-use Rattle.rules.specs.declared.Outcome.{Outcome}
-use Rattle.rules.specs.declared.Outcome.TheVariants.{Stopped, TurnedAway}
+use Rattle.rules.specs.Run.{Outcome, status_number, runs}
 use Rattle.rules.specs.declared.State.{State}
 use Rattle.rules.specs.declared.Notation.TheVariants.{Base}
 use Rattle.rules.specs.Record.{rec, bytes_of}
@@ -20,7 +18,6 @@ use Rattle.rules.specs.Calls.{calls}
 use Rattle.rules.specs.Convert.{convert}
 use Rattle.rules.specs.Relative.{to_relative, to_absolute}
 use Rattle.rules.specs.Stack.{stack, fresh}
-use Rattle.rules.specs.Run.{status_number, runs}
 use Rattle.rules.specs.Answers.{Call, check_records, check_routine, base_count, converting, absoluting, no_state, run_routine, run_base, step_routine, step_base}
 use Rattle.rules.proofs.Cases.{a, +a, -a, +a⟨}
 
@@ -37,31 +34,31 @@ Checking =
     -- The numbers 1 to 11, and 14, each with its place.
     × (map told (Ragged ∷ Long ∷ Kind 9 ∷ Field 9 ∷ Nesting 9 ∷ Skip 9 ∷ Growth ∷ Room ∷ Reply 9 ∷ refusal.State ∷ Far 9 ∷ Label 9 ∷ []) ≡ number 1 0 ∷ number 2 0 ∷ number 3 9 ∷ number 4 9 ∷ number 5 9 ∷ number 6 9 ∷ number 7 0 ∷ number 8 0 ∷ number 9 9 ∷ number 10 0 ∷ number 11 9 ∷ number 14 9 ∷ [])
     -- Order: the lowest record with fault 3 or 4, 3 first within it.
-    × (check_routine (1 ∷ []) ≡ Refused Ragged)
-    × (check_routine (bytes_of (rec 1 1000 0 ∷ rec 17 0 0 ∷ [])) ≡ Refused (Field 1))
-    × (check_routine (bytes_of (rec 11 0 0 ∷ rec 17 1 0 ∷ [])) ≡ Refused (Kind 2))
-    × (check_records Base (bytes_of (rec 1 1001 9999 ∷ rec 2 1002 0 ∷ rec 3 1003 7 ∷ rec 1 1002 1 ∷ [])) ≡ Refused (Field 4))
+    × (check_routine (1 ∷ []) ≡ Err Ragged)
+    × (check_routine (bytes_of (rec 1 1000 0 ∷ rec 17 0 0 ∷ [])) ≡ Err (Field 1))
+    × (check_routine (bytes_of (rec 11 0 0 ∷ rec 17 1 0 ∷ [])) ≡ Err (Kind 2))
+    × (check_records Base (bytes_of (rec 1 1001 9999 ∷ rec 2 1002 0 ∷ rec 3 1003 7 ∷ rec 1 1002 1 ∷ [])) ≡ Err (Field 4))
     -- The lowest opener never closed; a second separator doesn't fit.
-    × (check_routine (file (a 1 ∷ +a⟨ 1 ∷ +a⟨ 2 ∷ end conditional ∷ header loop true (outside 3) ∷ [])) ≡ Refused (Nesting 2))
-    × (check_routine (file (+a⟨ 1 ∷ separator ∷ separator ∷ end conditional ∷ [])) ≡ Refused (Nesting 3))
+    × (check_routine (file (a 1 ∷ +a⟨ 1 ∷ +a⟨ 2 ∷ end conditional ∷ header loop true (outside 3) ∷ [])) ≡ Err (Nesting 2))
+    × (check_routine (file (+a⟨ 1 ∷ separator ∷ separator ∷ end conditional ∷ [])) ≡ Err (Nesting 3))
     -- 14: a goto to nowhere, the lowest; the second label is looked for strictly behind the first. 5 comes before it, 6 after it.
-    × (check_routine (file (goto 7 ∷ [])) ≡ Refused (Label 1))
-    × (check_routine (file (goto2 5 5 ∷ label 5 ∷ label 5 ∷ [])) ≡ Accepted 3)
-    × (check_routine (file (goto2 5 7 ∷ label 7 ∷ label 5 ∷ [])) ≡ Refused (Label 1))
-    × (check_routine (file (label 1 ∷ goto 1 ∷ goto2 1 8 ∷ goto 7 ∷ [])) ≡ Refused (Label 3))
-    × (check_routine (file (goto 7 ∷ end conditional ∷ [])) ≡ Refused (Nesting 2))
-    × (check_routine (file (+a 1 ∷ call 1 ∷ goto 7 ∷ [])) ≡ Refused (Label 3))
-    × (converting (file (goto 7 ∷ [])) (replicate 8 0) (replicate 8 0) ≡ Refused (Label 1))
-    × ((run_routine (file (goto 7 ∷ [])) [] [] 9).answer.outcome ≡ TurnedAway (Label 1))
-    × ((step_routine (file (goto 7 ∷ [])) [] [] no_state).answer.outcome ≡ TurnedAway (Label 1))
+    × (check_routine (file (goto 7 ∷ [])) ≡ Err (Label 1))
+    × (check_routine (file (goto2 5 5 ∷ label 5 ∷ label 5 ∷ [])) ≡ Ok 3)
+    × (check_routine (file (goto2 5 7 ∷ label 7 ∷ label 5 ∷ [])) ≡ Err (Label 1))
+    × (check_routine (file (label 1 ∷ goto 1 ∷ goto2 1 8 ∷ goto 7 ∷ [])) ≡ Err (Label 3))
+    × (check_routine (file (goto 7 ∷ end conditional ∷ [])) ≡ Err (Nesting 2))
+    × (check_routine (file (+a 1 ∷ call 1 ∷ goto 7 ∷ [])) ≡ Err (Label 3))
+    × (converting (file (goto 7 ∷ [])) (replicate 8 0) (replicate 8 0) ≡ Err (Label 1))
+    × ((run_routine (file (goto 7 ∷ [])) [] [] 9).answer.outcome ≡ Err (Label 1))
+    × ((step_routine (file (goto 7 ∷ [])) [] [] no_state).answer.outcome ≡ Err (Label 1))
     -- 8 is also about the working buffer, and comes after 11.
-    × (converting (file (call 1 ∷ [])) (file (a 1 ∷ a 1 ∷ [])) (file (a 1 ∷ [])) ≡ Refused Room)
-    × (absoluting (bytes_of (rec 17 9999 0 ∷ [])) [] ≡ Refused (Far 1))
+    × (converting (file (call 1 ∷ [])) (file (a 1 ∷ a 1 ∷ [])) (file (a 1 ∷ [])) ≡ Err Room)
+    × (absoluting (bytes_of (rec 17 9999 0 ∷ [])) [] ≡ Err (Far 1))
     -- 9 comes after the routine's own checks and the base's 1 to 4: a routine with fault 6, a base with fault 4, both with a bad reply.
-    × ((run_routine (file (+a 1 ∷ call 1 ∷ [])) (2 ∷ []) [] 9).answer.outcome ≡ TurnedAway (Skip 1))
-    × ((run_base (bytes_of (rec 1 1000 0 ∷ [])) (2 ∷ []) [] 9).answer.outcome ≡ TurnedAway (Field 1))
+    × ((run_routine (file (+a 1 ∷ call 1 ∷ [])) (2 ∷ []) [] 9).answer.outcome ≡ Err (Skip 1))
+    × ((run_base (bytes_of (rec 1 1000 0 ∷ [])) (2 ∷ []) [] 9).answer.outcome ≡ Err (Field 1))
     -- A refused run writes nothing and has ended.
-    × (run_routine (file (a 1 ∷ [])) (1 ∷ 2 ∷ []) (7 ∷ 7 ∷ []) 9 ≡ record { answer = record { outcome = TurnedAway (Reply 2); state = no_state; steps = 0; replies = 0; actions = 0 }; log = 7 ∷ 7 ∷ [] })
+    × (run_routine (file (a 1 ∷ [])) (1 ∷ 2 ∷ []) (7 ∷ 7 ∷ []) 9 ≡ record { answer = record { outcome = Err (Reply 2); state = no_state; steps = 0; replies = 0; actions = 0 }; log = 7 ∷ 7 ∷ [] })
 
 -- ## Stages
 
@@ -94,8 +91,8 @@ Lowering =
     -- Back: backward k at i becomes ##0 where k = i or k > i, else ##(i-k); stop becomes ##0; forward k becomes ##(k+i).
     × (to_absolute (rec 18 1 0 ∷ rec 18 9 0 ∷ rec 18 1 0 ∷ rec 19 0 0 ∷ rec 17 2 0 ∷ []) ≡ rec 4 0 0 ∷ rec 4 0 0 ∷ rec 4 2 0 ∷ rec 4 0 0 ∷ rec 4 7 0 ∷ [])
     -- Forward 9,998 reaches 9,999 at place 1, and at place 2 is refused 11.
-    × (absoluting (bytes_of (rec 17 9998 0 ∷ [])) (replicate 8 0) ≡ Accepted 1)
-    × (absoluting (bytes_of (rec 17 9998 0 ∷ rec 17 9998 0 ∷ [])) (replicate 16 0) ≡ Refused (Far 2))
+    × (absoluting (bytes_of (rec 17 9998 0 ∷ [])) (replicate 8 0) ≡ Ok 1)
+    × (absoluting (bytes_of (rec 17 9998 0 ∷ rec 17 9998 0 ∷ [])) (replicate 16 0) ≡ Err (Far 2))
 
 -- ## Runs and single steps
 
@@ -105,7 +102,7 @@ log L replies = (runs L replies (replicate 10 0) 99).mem.log
 
 -- Ended after so many steps, with k replies used and actions logged.
 abbrev ended_after : ℕ → ℕ → List ℕ → Call
-ended_after n k log = record { answer = record { outcome = Stopped Ended; state = no_state; steps = n; replies = k; actions = k }; log = log }
+ended_after n k log = record { answer = record { outcome = Ok Ended; state = no_state; steps = n; replies = k; actions = k }; log = log }
 
 unfoldable pub Running : Type 0
 Running =
@@ -144,21 +141,21 @@ stepped m = step_routine (file (a 1 ∷ call 1 ∷ [])) (1 ∷ []) (7 ∷ 7 ∷ 
 unfoldable pub Stepping : Type 0
 Stepping =
     -- A step that is taken: budget 1 is spent. One that ends. None from position 0.
-    (stepped (start 1) ≡ hands_back (Stopped Spent) (start 2) 1 (1 ∷ 0 ∷ []))
-    × (step_base (file (a 1 ∷ [])) (0 ∷ []) (7 ∷ 7 ∷ []) (start 1) ≡ hands_back (Stopped Ended) (start 0) 1 (1 ∷ 0 ∷ []))
-    × (stepped (start 0) ≡ hands_back (Stopped Ended) (start 0) 0 (7 ∷ 7 ∷ []))
+    (stepped (start 1) ≡ hands_back (Ok Spent) (start 2) 1 (1 ∷ 0 ∷ []))
+    × (step_base (file (a 1 ∷ [])) (0 ∷ []) (7 ∷ 7 ∷ []) (start 1) ≡ hands_back (Ok Ended) (start 0) 1 (1 ∷ 0 ∷ []))
+    × (stepped (start 0) ≡ hands_back (Ok Ended) (start 0) 0 (7 ∷ 7 ∷ []))
     -- Stopped before the step: no reply left, log full, stack full.
-    × (step_base (file (a 1 ∷ [])) [] (7 ∷ 7 ∷ []) (start 1) ≡ hands_back (Stopped NoReply) (start 1) 0 (7 ∷ 7 ∷ []))
-    × (step_base (file (a 1 ∷ [])) (1 ∷ []) (7 ∷ []) (start 1) ≡ hands_back (Stopped LogFull) (start 1) 0 (7 ∷ []))
-    × (stepped (standing 2 (replicate 96 1) 96) ≡ hands_back (Stopped StackFull) (standing 2 (replicate 96 1) 96) 0 (7 ∷ 7 ∷ []))
+    × (step_base (file (a 1 ∷ [])) [] (7 ∷ 7 ∷ []) (start 1) ≡ hands_back (Ok NoReply) (start 1) 0 (7 ∷ 7 ∷ []))
+    × (step_base (file (a 1 ∷ [])) (1 ∷ []) (7 ∷ []) (start 1) ≡ hands_back (Ok LogFull) (start 1) 0 (7 ∷ []))
+    × (stepped (standing 2 (replicate 96 1) 96) ≡ hands_back (Ok StackFull) (standing 2 (replicate 96 1) 96) 0 (7 ∷ 7 ∷ []))
     -- Refused 10, and the state handed back: a position above n, a depth above 96, an entry in use above 9,999, an unused one not zero.
-    × (stepped (start 3) ≡ hands_back (TurnedAway refusal.State) (start 3) 0 (7 ∷ 7 ∷ []))
-    × (stepped (standing 1 (replicate 96 0) 97) ≡ hands_back (TurnedAway refusal.State) (standing 1 (replicate 96 0) 97) 0 (7 ∷ 7 ∷ []))
-    × (stepped (standing 1 (10000 ∷ replicate 95 0) 1) ≡ hands_back (TurnedAway refusal.State) (standing 1 (10000 ∷ replicate 95 0) 1) 0 (7 ∷ 7 ∷ []))
-    × (stepped (standing 1 (9999 ∷ 1 ∷ replicate 94 0) 1) ≡ hands_back (TurnedAway refusal.State) (standing 1 (9999 ∷ 1 ∷ replicate 94 0) 1) 0 (7 ∷ 7 ∷ []))
-    × (stepped (standing 1 (9999 ∷ replicate 95 0) 1) ≡ hands_back (Stopped Spent) (standing 2 (9999 ∷ replicate 95 0) 1) 1 (1 ∷ 0 ∷ []))
+    × (stepped (start 3) ≡ hands_back (Err refusal.State) (start 3) 0 (7 ∷ 7 ∷ []))
+    × (stepped (standing 1 (replicate 96 0) 97) ≡ hands_back (Err refusal.State) (standing 1 (replicate 96 0) 97) 0 (7 ∷ 7 ∷ []))
+    × (stepped (standing 1 (10000 ∷ replicate 95 0) 1) ≡ hands_back (Err refusal.State) (standing 1 (10000 ∷ replicate 95 0) 1) 0 (7 ∷ 7 ∷ []))
+    × (stepped (standing 1 (9999 ∷ 1 ∷ replicate 94 0) 1) ≡ hands_back (Err refusal.State) (standing 1 (9999 ∷ 1 ∷ replicate 94 0) 1) 0 (7 ∷ 7 ∷ []))
+    × (stepped (standing 1 (9999 ∷ replicate 95 0) 1) ≡ hands_back (Ok Spent) (standing 2 (9999 ∷ replicate 95 0) 1) 1 (1 ∷ 0 ∷ []))
     -- 9 comes before 10.
-    × ((step_routine (file (a 1 ∷ [])) (2 ∷ []) [] (start 2)).answer.outcome ≡ TurnedAway (Reply 1))
+    × ((step_routine (file (a 1 ∷ [])) (2 ∷ []) [] (start 2)).answer.outcome ≡ Err (Reply 1))
 
 -- ## Where demand 3 can say no more
 
@@ -208,8 +205,8 @@ no_then_yes = 0 ∷ replicate 4 1
 -- Refused 6 at the test; what is written instead is accepted, and logs the same, on yes and on no.
 abbrev Instead : List Op → ℕ → List Op → ℕ → List ℕ → List ℕ → Type 0
 Instead refused at' written n on_yes on_no =
-    (check_routine (file refused) ≡ Refused (Skip at'))
-    × (check_routine (file written) ≡ Accepted n)
+    (check_routine (file refused) ≡ Err (Skip at'))
+    × (check_routine (file written) ≡ Ok n)
     × (log refused yes_each ≡ on_yes)
     × (log written yes_each ≡ on_yes)
     × (log refused no_then_yes ≡ on_no)

@@ -1,19 +1,16 @@
 -- What every public call answers, and what each lent buffer then holds, on every input.
-use Rattle.std.specs.Prelude.{◌≡◌, ◌*◌, ◌&&◌, ◌||◌, ◌∷◌, ◌++◌}
-use Rattle.rules.specs.Words.{ℕ, zero, suc, Bool, true, not, cond, Option, none, some, List, [], map, length, drop, replicate, eqb, leb, ltb}
+use Rattle.std.specs.Prelude.{◌≡◌, ◌*◌, ◌&&◌, ◌||◌, ◌∷◌, ◌++◌, Ok, Err}
+use Rattle.rules.specs.Words.{ℕ, zero, suc, Bool, true, not, cond, Option, None, Some, List, [], map, length, drop, replicate, eqb, leb, ltb}
 use Rattle.rules.specs.declared.Refusal.{Refusal}
 use Rattle.rules.specs.declared.Refusal.TheVariants.{Nesting, Label, Skip, Growth, Room, Reply, Far}
 use Rattle.rules.specs.declared.Refusal.TheVariants as refusal
-use Rattle.rules.specs.declared.Verdict.{Verdict}
-use Rattle.rules.specs.declared.Verdict.TheVariants.{Accepted, Refused}
-use Rattle.rules.specs.declared.Outcome.TheVariants.{Stopped, TurnedAway}
+use Rattle.rules.specs.Refusals.{Verdict, when, when_at, first, verdict}
 use Rattle.rules.specs.declared.State.{State}
 use Rattle.rules.specs.declared.Ran.{Ran}
 use Rattle.rules.specs.Record.{Rec, bytes_of, count, records}
 use Rattle.rules.specs.declared.Notation.{Notation}
 use Rattle.rules.specs.declared.Notation.TheVariants.{Routine, Base, Relative}
 use Rattle.rules.specs.Instruction.{encode, ops}
-use Rattle.rules.specs.Refusals.{when, when_at, first, verdict}
 use Rattle.rules.specs.Checks.{record_checks}
 use Rattle.rules.specs.Nesting.{nesting}
 use Rattle.rules.specs.Labels.{lost_goto}
@@ -62,13 +59,13 @@ check_routine s = verdict (routine_checks s) (count s)
 
 -- A refused call writes to no lent buffer. One that succeeds fills the first 8 bytes per record of the output and keeps the rest ..
 unfoldable pub filled : Verdict → List Rec → List ℕ → List ℕ
-filled (Accepted n) rs out = bytes_of rs ++ drop (8 * n) out
-filled (Refused r) rs out = out
+filled (Ok n) rs out = bytes_of rs ++ drop (8 * n) out
+filled (Err r) rs out = out
 
 -- .. and a conversion leaves the working buffer all zero.
 unfoldable pub cleared : Verdict → List ℕ → List ℕ
-cleared (Accepted n) work = replicate (length work) 0
-cleared (Refused r) work = work
+cleared (Ok n) work = replicate (length work) 0
+cleared (Err r) work = work
 
 -- The records of the base, and how many they are.
 unfoldable pub base_records : List ℕ → List Rec
@@ -109,7 +106,7 @@ pub record Call : Type 0 where
 unfoldable pub ran : Run → Call
 ran r = record {
   answer = record {
-    outcome = Stopped r.status;
+    outcome = Ok r.status;
     state = record { at = r.position; stack = r.mem.stack };
     steps = r.steps;
     replies = r.mem.used;
@@ -120,11 +117,11 @@ ran r = record {
 
 -- A refused call hands back the state m with nothing taken, used or logged, and leaves the log as it was.
 unfoldable pub turned_away : Refusal → State → List ℕ → Call
-turned_away r m log = record { answer = record { outcome = TurnedAway r; state = m; steps = 0; replies = 0; actions = 0 }; log = log }
+turned_away r m log = record { answer = record { outcome = Err r; state = m; steps = 0; replies = 0; actions = 0 }; log = log }
 
 unfoldable pub unless : Option Refusal → State → List ℕ → Call → Call
-unless none m log c = c
-unless (some r) m log c = turned_away r m log
+unless None m log c = c
+unless (Some r) m log c = turned_away r m log
 
 -- A refused run hands back a fresh state that has ended.
 unfoldable pub no_state : State

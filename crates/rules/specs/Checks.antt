@@ -1,6 +1,6 @@
 -- Refusals 1 to 4, for a routine, a base and a relative base alike.
 use Rattle.std.specs.Prelude.{◌%◌, ◌&&◌, ◌||◌, ◌∷◌}
-use Rattle.rules.specs.Words.{ℕ, zero, suc, Bool, true, false, not, Option, none, some, List, [], length, drop, eqb, leb, ltb}
+use Rattle.rules.specs.Words.{ℕ, zero, suc, Bool, true, false, not, Option, None, Some, List, [], length, drop, eqb, leb, ltb}
 use Rattle.rules.specs.declared.Row.{Row}
 use Rattle.rules.specs.declared.Refusal.{Refusal}
 use Rattle.rules.specs.declared.Refusal.TheVariants.{Ragged, Long, Kind, Field}
@@ -26,8 +26,8 @@ long nt s = ltb (most nt) (count s)
 
 -- 3 kind: a kind not of this notation, or byte 1, 6 or 7 not zero.
 unfoldable pub listed : Option Row → Bool
-listed none = false
-listed (some row) = true
+listed None = false
+listed (Some row) = true
 
 unfoldable pub kind_fault : Notation → List ℕ → Bool
 kind_fault nt s = not (listed (row_of nt (record_of s).kind) && spare_zero s)
@@ -35,8 +35,8 @@ kind_fault nt s = not (listed (row_of nt (record_of s).kind) && spare_zero s)
 -- 4 field: x or y outside its range. In a base and a relative base x of kinds 1 to 3 may also be 1001 (push), 1002 (pop) or
 -- 1003 (compare the top); y is 0..9,999 for 1001 and 1003, and zero otherwise.
 unfoldable pub in_row : Option Row → Rec → Bool
-in_row none r = false
-in_row (some row) r = leb row.xmin r.x && leb r.x row.xmax && leb row.ymin r.y && leb r.y row.ymax
+in_row None r = false
+in_row (Some row) r = leb row.xmin r.x && leb r.x row.xmax && leb row.ymin r.y && leb r.y row.ymax
 
 unfoldable pub stack_action : Rec → Bool
 stack_action r = names 3 r.kind && ((eqb r.x 1001 || eqb r.x 1003) && leb r.y 9999 || eqb r.x 1002 && eqb r.y 0)
@@ -54,7 +54,7 @@ unfoldable pub fault : Notation → ℕ → List ℕ → Option Refusal
 fault nt i s = or_else (when (kind_fault nt s) (Kind i)) (when (field_fault nt (record_of s)) (Field i))
 
 unfoldable pub fault_from : Notation → ℕ → ℕ → List ℕ → Option Refusal
-fault_from nt i zero s = none
+fault_from nt i zero s = None
 fault_from nt i (suc n) s = or_else (fault nt i s) (fault_from nt (suc i) n (drop 8 s))
 
 -- Order: 1, 2; then the lowest record with fault 3 or 4.

@@ -1,11 +1,11 @@
 -- Records are numbered from 1. The number 0 names no record: it is the answer "there is none", and as a position it means ended.
 use Rattle.std.specs.Prelude.{◌∷◌}
-use Rattle.rules.specs.Words.{ℕ, zero, suc, Bool, false, cond, Option, none, some, List, [], get_elem?, leb}
+use Rattle.rules.specs.Words.{ℕ, zero, suc, Bool, false, cond, Option, None, Some, List, [], slice_get, leb}
 
 -- Number i of a list.
 unfoldable pub at : {A : Type 0} → List A → ℕ → Option A
-at L zero = none
-at L (suc i) = get_elem? L i
+at L zero = None
+at L (suc i) = slice_get L i
 
 -- f of each record and its number; the first has number i.
 unfoldable pub each : {A B : Type 0} → (ℕ → A → B) → ℕ → List A → List B
@@ -19,8 +19,13 @@ given (suc k) x = x
 
 -- The number that was found, 0 where none was.
 unfoldable pub or_zero : Option ℕ → ℕ
-or_zero none = 0
-or_zero (some k) = k
+or_zero None = 0
+or_zero (Some k) = k
+
+-- The number k as an answer that may be none: 0 says that there is none.
+abbrev pub found : ℕ → Option ℕ
+found zero = None
+found (suc k) = Some (suc k)
 
 -- The number after k, where k names a record.
 unfoldable pub past : ℕ → ℕ

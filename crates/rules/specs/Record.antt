@@ -1,12 +1,11 @@
 -- The record. Eight bytes each, no header. Byte 0 is the kind. Bytes 2-3 are x and bytes 4-5 are y, low byte first. Bytes 1, 6 and 7
 -- are zero.
 use Rattle.std.specs.Prelude.{◌+◌, ◌*◌, ◌/◌, ◌%◌, ◌&&◌, ◌∷◌, ◌++◌}
+use Rattle.rules.specs.declared.Record.{Record}
 use Rattle.rules.specs.Words.{ℕ, zero, suc, Bool, List, [], length, drop, get_or, eqb}
 
-pub record Rec : Type 0 where
-  pub kind : ℕ
-  pub x : ℕ
-  pub y : ℕ
+abbrev pub Rec : Type 0
+Rec = Record
 
 abbrev pub rec : ℕ → ℕ → ℕ → Rec
 rec k x y = record { kind = k; x = x; y = y }

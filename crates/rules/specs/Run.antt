@@ -1,5 +1,7 @@
 -- Runs: the iterated step, with a budget.
 use Rattle.rules.specs.Words.{ℕ, zero, suc, cond, List, length, eqb}
+use Rattle.std.specs.Prelude.{Result}
+use Rattle.rules.specs.declared.Refusal.{Refusal}
 use Rattle.rules.specs.declared.Status.{Status}
 use Rattle.rules.specs.declared.Status.TheVariants.{Ended, NoReply, LogFull, StackFull, Spent}
 use Rattle.rules.specs.Instruction.{Op}
@@ -14,6 +16,10 @@ status_number NoReply = 2
 status_number LogFull = 3
 status_number StackFull = 4
 status_number Spent = 5
+
+-- How a run or a step came out: why it stopped, or why it is turned away.
+abbrev pub Outcome : Type 0
+Outcome = Result Status Refusal
 
 -- Where a run stands, what is then there, the steps taken and the status.
 pub record Run : Type 0 where

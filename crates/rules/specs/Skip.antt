@@ -1,6 +1,6 @@
 -- The places added in the base, refusal 6 and the converted length.
 use Rattle.std.specs.Prelude.{◌+◌, ◌*◌, ◌&&◌, ◌||◌, ◌∷◌}
-use Rattle.rules.specs.Words.{ℕ, suc, Bool, not, cond, Option, none, some, List, [], length, eqb, ltb}
+use Rattle.rules.specs.Words.{ℕ, suc, Bool, not, cond, Option, None, Some, List, [], length, eqb, ltb}
 use Rattle.rules.specs.declared.Row.{Row}
 use Rattle.rules.specs.declared.Notation.TheVariants.{Routine}
 use Rattle.rules.specs.Table.{row_of}
@@ -8,8 +8,8 @@ use Rattle.rules.specs.Instruction.{Op, encode}
 
 -- The places that a record adds in the base of a routine of n records: the last column of the table.
 unfoldable pub added_by : ℕ → Option Row → ℕ
-added_by n none = 0
-added_by n (some row) = row.once + row.each * n
+added_by n None = 0
+added_by n (Some row) = row.once + row.each * n
 
 unfoldable pub added : ℕ → Op → ℕ
 added n o = added_by n (row_of Routine (encode o).kind)

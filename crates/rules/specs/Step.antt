@@ -1,6 +1,6 @@
 -- What one step does, in a routine and in a base.
 use Rattle.std.specs.Prelude.{◌+◌, ◌-◌, ◌*◌}
-use Rattle.rules.specs.Words.{ℕ, suc, Bool, true, not, cond, Option, none, some, List, length, get_or, set, eqb, leb, ltb}
+use Rattle.rules.specs.Words.{ℕ, suc, Bool, true, not, cond, Option, None, Some, List, length, get_or, set, eqb, leb, ltb}
 use Rattle.rules.specs.declared.Stack.{Stack}
 use Rattle.rules.specs.declared.Status.{Status}
 use Rattle.rules.specs.declared.Status.TheVariants.{Ended, NoReply, LogFull, StackFull}
@@ -102,8 +102,8 @@ branch v t f (stops s) = halt s
 
 -- ##R: if the stack is not empty and its top t is in 1..n, pop and go to t; otherwise end, stack kept.
 unfoldable pub leaving : ℕ → Option ℕ → Mem → Out
-leaving n none m = go 0 m
-leaving n (some t) m = cond (names n t) (go t (with_stack (popped m.stack) m)) (go 0 m)
+leaving n None m = go 0 m
+leaving n (Some t) m = cond (names n t) (go t (with_stack (popped m.stack) m)) (go 0 m)
 
 unfoldable pub does : ℕ → Deed → Mem → Out
 does n (ask a v t f) m = branch v (move_to n t) (move_to n f) (perform a m)
@@ -112,8 +112,8 @@ does n (enter r k) m = branch true (move_to n k) (move_to n k) (perform (push r)
 does n leave m = leaving n (top m.stack) m
 
 unfoldable pub step_at : List Op → ℕ → Option Op → Mem → Out
-step_at L i none m = halt Ended
-step_at L i (some o) m = does (length L) (deed L i o) m
+step_at L i None m = halt Ended
+step_at L i (Some o) m = does (length L) (deed L i o) m
 
 -- The step of the routine or base L at position i. Position 0 means ended.
 unfoldable pub step : List Op → ℕ → Mem → Out

@@ -1,8 +1,16 @@
 // The values that every call answers with, and the paper as definitions, in specs/. What each value means stands there.
 #![tactic(auto)]
 
+// A record: its kind, and its two numbers.
+#[derive(Clone, Copy, Debug, PartialEq, Eq)]
+pub struct Record {
+    pub kind: u8,
+    pub x: u16,
+    pub y: u16,
+}
+
 // Why a call is turned away, under the paper's names. The number is the place: of a record, or of a reply byte, from 1.
-#[derive(Clone, Copy)]
+#[derive(Clone, Copy, Debug, PartialEq, Eq)]
 pub enum Refusal {
     Ragged,
     Long,
@@ -19,11 +27,7 @@ pub enum Refusal {
 }
 
 // What a check, a conversion or a translation answers: how many records there are, or why it is turned away.
-#[derive(Clone, Copy)]
-pub enum Verdict {
-    Accepted(usize),
-    Refused(Refusal),
-}
+pub type Verdict = Result<usize, Refusal>;
 
 // The counter stack.
 #[derive(Clone, Copy)]
@@ -40,7 +44,7 @@ pub struct State {
 }
 
 // Why a run stopped.
-#[derive(Clone, Copy)]
+#[derive(Clone, Copy, Debug, PartialEq, Eq)]
 pub enum Status {
     Ended,
     NoReply,
@@ -49,11 +53,8 @@ pub enum Status {
     Spent,
 }
 
-#[derive(Clone, Copy)]
-pub enum Outcome {
-    Stopped(Status),
-    TurnedAway(Refusal),
-}
+// How a run or a step came out: why it stopped, or why it is turned away.
+pub type Outcome = Result<Status, Refusal>;
 
 // What a run or a step answers.
 #[derive(Clone, Copy)]
@@ -66,7 +67,7 @@ pub struct Ran {
 }
 
 // The three notations that files are written in.
-#[derive(Clone, Copy)]
+#[derive(Clone, Copy, Debug, PartialEq, Eq)]
 pub enum Notation {
     Routine,
     Base,

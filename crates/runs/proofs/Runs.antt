@@ -1,10 +1,10 @@
 -- Runs of bytes of a sort.
 --     run_on, run_off, span_on, span_off     one byte more, or the run's end
---     in_run, span_fits     a byte of a run is in the text, and a run reaches no further than its end
+--     span_reach            a run that starts in the text reaches no further than its end
 use mathlib.Core.Path.{◌≡◌, refl}
 use mathlib.Core.Bool.{true, false}
 use mathlib.Core.List.{List, [], ◌∷◌}
-use Prim.Native.Nat.{ℕ, zero, suc, ◌+◌, ◌-◌, ◌≤◌, ◌<◌}
+use Prim.Native.Nat.{ℕ, zero, suc, ◌+◌, ◌-◌, max, ◌≤◌, ◌<◌}
 use native.Mathlib.Omega.{arith}
 use lib.Dec.{ltb}
 use lib.ListN.{length}
@@ -34,14 +34,8 @@ module _ (c : Sort) (w : List ℕ) where
   pub span_off : (at n : ℕ) → in_sort c (byte_at w at) ≡ false → span c w at n ≡ 0
   span_off at n h = rw (run_off at n h)
 
-  pub in_run : (at n m : ℕ) → m < span c w at n → at + m < length w
-  in_run at n m h =
-      by_test (ltb (length w) at)
-      (λ e. absurd (omega (arith, span_off at n (past_end c w at (omega (arith, ltb-true (length w) at e))))))
-      (λ e. omega (arith, span-within c w at n (ltb-false (length w) at e)))
-
-  pub span_fits : (at n m : ℕ) → at ≤ m → length w ≤ m → at + span c w at n ≤ m
-  span_fits at n m h l =
+  pub span_reach : (at n : ℕ) → at + span c w at n ≤ max at (length w)
+  span_reach at n =
       by_test (ltb (length w) at)
       (λ e. omega (arith, span_off at n (past_end c w at (omega (arith, ltb-true (length w) at e)))))
       (λ e. omega (arith, span-within c w at n (ltb-false (length w) at e)))

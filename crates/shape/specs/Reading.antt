@@ -14,7 +14,7 @@ use Rattle.shape.specs.declared.nesting.Start.TheVariants as start
 use Rattle.shape.specs.declared.nesting.Read.{Read}
 use Rattle.shape.specs.declared.nesting.Read.TheVariants.{To, Misfit, Open}
 use Rattle.shape.specs.declared.nesting.Behind.{Behind}
-use Rattle.shape.specs.declared.nesting.Behind.TheVariants as behind
+use Rattle.shape.specs.declared.nesting.Behind.TheVariants.{Done, Second}
 
 -- What a record is to a body, by what it is to the conditionals and to the loops.
 unfoldable pub start_of : partners.Role → partners.Role → Start
@@ -28,15 +28,15 @@ start_of other other = start.Alone
 
 -- The record with number k stands behind a body of an item of this sort.
 unfoldable pub behind_by : partners.Role → ℕ → Behind
-behind_by opens k = behind.Item (Misfit k)
-behind_by parts k = behind.Second k
-behind_by ends k = behind.Item (To k)
-behind_by other k = behind.Item (Misfit k)
+behind_by opens k = Done (Misfit k)
+behind_by parts k = Second k
+behind_by ends k = Done (To k)
+behind_by other k = Done (Misfit k)
 
 unfoldable pub behind_of : List ℕ → ℕ → instruction.Sort → Read → Behind
-behind_of s at b (To m) = cond (ltb m (count s)) (behind_by (role_of_kind b (get_or s (8 * m) 0)) (m + 1)) (behind.Item (Open (at + 1)))
-behind_of s at b (Misfit k) = behind.Item (Misfit k)
-behind_of s at b (Open k) = behind.Item (Open (at + 1))
+behind_of s at b (To m) = cond (ltb m (count s)) (behind_by (role_of_kind b (get_or s (8 * m) 0)) (m + 1)) (Done (Open (at + 1)))
+behind_of s at b (Misfit k) = Done (Misfit k)
+behind_of s at b (Open k) = Done (Open (at + 1))
 
 -- The place of refusal 5 from the record after the first `at` on, with these items open.
 unfoldable pub run : List ℕ → ℕ → List Item → ℕ
@@ -57,12 +57,14 @@ abbrev pub Passes : List ℕ → ℕ → ℕ → Type 0
 Passes s at m = (st : List Item) → run s at st ≡ run s m st
 
 -- .. or the place is k ..
-abbrev pub Fails : List ℕ → ℕ → ℕ → Type 0
-Fails s at k = (st : List Item) → run s at st ≡ k
+pub record Fails (s : List ℕ) (at k : ℕ) : Type 0 where
+  pub numbered : 1 ≤ k
+  pub fails : (st : List Item) → run s at st ≡ k
 
 -- .. or nothing misfits, and an opener with number k stays open, the lowest from `at` on.
-abbrev pub StaysOpen : List ℕ → ℕ → ℕ → Type 0
-StaysOpen s at k = (st : List Item) → run s at st ≡ lowest (item instruction.loop false k ∷ st)
+pub record StaysOpen (s : List ℕ) (at k : ℕ) : Type 0 where
+  pub numbered : 1 ≤ k
+  pub stays : (st : List Item) → run s at st ≡ lowest (item instruction.loop false k ∷ st)
 
 pub record BodyTo (s : List ℕ) (at m : ℕ) : Type 0 where
   pub from : at ≤ m

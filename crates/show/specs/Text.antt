@@ -1,9 +1,7 @@
 -- What the programs of cases print, byte for byte: a record as the paper writes it, and a verdict.
-use Rattle.std.specs.Prelude.{◌∷◌}
+use Rattle.std.specs.Prelude.{◌∷◌, Ok, Err}
 use Rattle.rules.specs.Words.{ℕ, List, [], map, get_or}
-use Rattle.rules.specs.declared.Verdict.{Verdict}
-use Rattle.rules.specs.declared.Verdict.TheVariants.{Accepted, Refused}
-use Rattle.rules.specs.Refusals.{told}
+use Rattle.rules.specs.Refusals.{Verdict, told}
 use Rattle.rules.specs.Record.{Rec}
 use Rattle.print.specs.Text.{ascii, filled}
 use Rattle.words.specs.Text.{instruction}
@@ -29,5 +27,5 @@ written r =
 
 -- What a check, a conversion or a translation answers, as a line.
 unfoldable pub answer : Verdict → List ℕ
-answer (Accepted n) = filled (ascii "accepted x\n") n 0
-answer (Refused r) = filled (ascii "refused x y\n") (told r).number (told r).place
+answer (Ok n) = filled (ascii "accepted x\n") n 0
+answer (Err r) = filled (ascii "refused x y\n") (told r).number (told r).place

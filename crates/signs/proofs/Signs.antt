@@ -9,7 +9,7 @@ use Prim.Native.Nat.{ℕ, zero, suc, ◌+◌, ◌<◌}
 use native.Mathlib.Numerals.{add-one}
 use native.Mathlib.Omega.{arith}
 use lib.Dec.{T, eqb, leb, leb→le}
-use lib.ListN.{length, get_or, drop}
+use lib.ListN.{length, get_or, get_or-eq_default, drop}
 use lib.Seq.{drop-cons}
 use borrow.Author.Tests.{eqb-false}
 use Rattle.text.specs.Bytes.{byte_at}
@@ -40,6 +40,10 @@ each q e (f ∷ fs) (suc i) n = each q e fs i (rest (q f) n)
     rest : (b : Bool) → T (cond b (every q fs) false) → T (every q fs)
     rest true n = n
     rest false n = absurd n
+
+-- of a number above 17 there is no form
+pub formless : (i : ℕ) → 17 < i → signs_of i ≡ []
+formless i h = get_or-eq_default ([] ∷ forms) [] {n = i} (omega arith)
 
 pub all_positive : (i : ℕ) → T (positive (signs_of i))
 all_positive i = each positive tt ([] ∷ forms) i tt

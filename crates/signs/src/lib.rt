@@ -1,58 +1,53 @@
-// The signs of the forms: tables.
+// The signs of the forms, and the letter of each: tables.
 #![tactic(auto)]
 
-ghost use Rattle.std.specs.Prelude.{◌≡◌, ◌+◌, ◌≤◌};
+ghost use Rattle.std.specs.Prelude.{◌≡◌};
 ghost use Rattle.text.specs.Bytes.{byte_at};
 ghost use Rattle.text.specs.Forms.{signs_of, letter_of};
-ghost use Rattle.signs.specs.Blankless.{blankless};
 
-// The tables below are padded with blanks, which no form has.
-fn unspaced(p: u8) -> u8
-    ensures { result ≡ blankless p }
+// The signs of form number i, from 1, as the paper writes it; none where there is no such form.
+#[tactic(auto, using(crate::proofs::Signs::formless))]
+pub fn signs_of(i: usize) -> &'static [u8]
+    ensures { result.now ≡ signs_of i }
 {
-    if p == 32 { 0 } else { p }
+    match i {
+        1 => b"a",
+        2 => b"+a",
+        3 => b"-a",
+        4 => b"##k",
+        5 => b"[s]",
+        6 => b"##[s]",
+        7 => b"##[s][t]",
+        8 => b"+a{",
+        9 => b"-a{",
+        10 => b"}{",
+        11 => b"}",
+        12 => b"+a{*",
+        13 => b"-a{*",
+        14 => b"*}",
+        15 => b"R##k",
+        16 => b"##R",
+        17 => b"!",
+        _ => b"",
+    }
 }
 
-// Sign number j of form number i, of its first four; and of its last four. Two tables, since a table is made anew at every look.
-fn early_sign(i: usize, j: usize) -> u8
-    requires { (i ≤ 17) × (j ≤ 3) }
-    ensures { result ≡ byte_at (signs_of i) j }
-{
-    let table = b"    a   +a  -a  ##k [s] ##[s##[s+a{ -a{ }{  }   +a{*-a{**}  R##k##R !   ";
-    unspaced(table[4 * i + j])
-}
-
-fn late_sign(i: usize, j: usize) -> u8
-    requires { (i ≤ 17) × (j ≤ 3) }
-    ensures { result ≡ byte_at (signs_of i) (4 + j) }
-{
-    let table = b"                        ]   ][t]                                        ";
-    unspaced(table[4 * i + j])
-}
-
-// Sign number j, from 0, of form number i, from 1; 0 past the last, and where there is no such form.
+// Sign number j, from 0, of form number i; 0 past the last, as the definition has it, so that a form is followed to a sign that no text has.
 pub fn sign(i: usize, j: usize) -> u8
     ensures { result ≡ byte_at (signs_of i) j }
 {
-    if 17 < i {
-        return 0;
-    }
-    if 7 < j {
-        return 0;
-    }
-    if j < 4 {
-        return early_sign(i, j);
-    }
-    late_sign(i, j - 4)
+    signs_of(i).get(j).copied().unwrap_or(0)
 }
 
-// The letter that x of form number i is written by: a, k or s; 0 where the form has none.
+// The letter that x of form number i is written by: a, k or s; 0, as in the definition, where the form has none.
+#[tactic(auto, unfolding(text::specs::Forms::letter_in))]
 pub fn letter_of(i: usize) -> u8
     ensures { result ≡ letter_of i }
 {
-    let table = b" aaaksssaa  aa k  ";
-    if 17 < i {
-        return 0;
+    match i {
+        1 | 2 | 3 | 8 | 9 | 12 | 13 => b'a',
+        4 | 15 => b'k',
+        5 | 6 | 7 => b's',
+        _ => 0,
     }
-    unspaced(table[i])
 }

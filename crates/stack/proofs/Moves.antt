@@ -7,10 +7,6 @@ use lib.Dec.{leb}
 use borrow.Author.Tests.{le-leb, leb-true}
 use Rattle.rules.specs.Numbers.{names, move_to}
 
-pub names_zero : (n k : ℕ) → k ≡ 0 → names n k ≡ false
-unfolding names
-names_zero n k e = rw e
-
 pub names-leb : (n k : ℕ) → ¬ (k ≡ 0) → names n k ≡ leb k n
 unfolding names
 names-leb n zero h = absurd (h refl)

@@ -2,11 +2,11 @@
 -- it from the source.
 use mathlib.Core.Path.{◌≡◌}
 use Rattle.stack.proofs.names.Reads as names
-use Rattle.stack.proofs.Counters.fresh.Reads as fresh
-use Rattle.stack.proofs.Counters.top.Reads as top
-use Rattle.stack.proofs.Counters.push.Reads as push
-use Rattle.stack.proofs.Counters.pop.Reads as pop
-use Rattle.stack.proofs.Counters.top_is.Reads as top_is
+use Rattle.stack.proofs.StackCounters.fresh.Reads as fresh
+use Rattle.stack.proofs.StackCounters.top.Reads as top
+use Rattle.stack.proofs.StackCounters.push.Reads as push
+use Rattle.stack.proofs.StackCounters.pop.Reads as pop
+use Rattle.stack.proofs.StackCounters.top_is.Reads as top_is
 
 names_once : (κs : _) (a : _) (r r' : _) (e e' : _) → names.Learnt κs a r e → names.Learnt κs a r' e' → r ≡ r'
 names_once κs a r r' e e' p q = cc

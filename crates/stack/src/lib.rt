@@ -1,28 +1,22 @@
 // The counter stack: pushing, popping and comparing hand back the whole counter stack.
 #![tactic(auto)]
 
-ghost use Rattle.std.specs.Prelude.{◌≡◌};
+ghost use Rattle.std.specs.Prelude.{◌≡◌, ℕ, Option};
+ghost use Rattle.rules.specs.declared.Stack.{Stack};
 ghost use Rattle.rules.specs.Numbers.{names};
 ghost use Rattle.rules.specs.Stack.{fresh, top};
-ghost use Rattle.rules.specs.Numbers.{or_zero};
 ghost use Rattle.stack.specs.Methods.{pushing, popping, comparing};
 
 use rules::Stack;
 
-// The counter stack at work. A method stands in the crate of its type, so the machine has this one.
-#[derive(Clone, Copy)]
-pub struct Counters {
-    pub stack: Stack,
-}
-
-#[derive(Clone, Copy)]
+#[derive(Clone, Copy, Debug, PartialEq, Eq)]
 pub enum StackReply {
     Yes,
     No,
     Full,
 }
 
-// The reply, and the whole stack beside it: an enum cannot hold the array.
+// The reply, and the whole stack beside it, also where it is full.
 #[derive(Clone, Copy)]
 pub struct Handed {
     pub reply: StackReply,
@@ -30,45 +24,64 @@ pub struct Handed {
 }
 
 // Whether k is in 1..n: the number of a record of a file, or of an entry of the stack.
+#[tactic(auto, unfolding(rules::specs::Numbers::names))]
 pub fn names(n: usize, k: usize) -> bool
     ensures { result ≡ names n k }
 {
-    if k == 0 {
-        return false;
-    }
-    k <= n
+    (1..=n).contains(&k)
 }
 
-impl Counters {
+// The counter stack's methods. They stand in a trait, since the stack is declared in `rules`.
+pub trait Counters {
+    ghost held: { Self → Stack };
+
     // 96 zeros at depth 0.
-    pub fn fresh() -> Stack
-        ensures { result ≡ fresh }
-    {
+    fn fresh() -> Self
+        ensures { held result ≡ fresh };
+
+    // The top, if there is one.
+    fn top(&self) -> Option<u16>
+        ensures { result ≡ top (held self.now) };
+
+    // Push replies yes, or says that the stack is full.
+    fn push(self, y: u16) -> Handed
+        ensures { result ≡ pushing (held self) y };
+
+    // Pop replies no on empty, else yes.
+    fn pop(self) -> Handed
+        ensures { result ≡ popping (held self) };
+
+    // Compare replies yes exactly if not empty and the top equals y, and keeps it.
+    fn top_is(self, y: u16) -> Handed
+        ensures { result ≡ comparing (held self) y };
+}
+
+// Push and pop take the stack by its parts and put it together again, for speed: with the stack changed as one value a run of pushes,
+// compares and pops took half as long again.
+impl Counters for Stack {
+    ghost held = { λ s. s };
+
+    fn fresh() -> Stack {
         Stack {
             entries: [0; 96],
             depth: 0,
         }
     }
 
-    // The top, or 0 where there is none.
-    pub fn top(self) -> u16
-        ensures { result ≡ or_zero (top self.stack) }
-    {
-        let stack = self.stack;
-        let d = stack.depth;
-        if names(96, d) {
-            return stack.entries[d - 1];
+    #[tactic(auto, using(crate::proofs::Methods::tops))]
+    fn top(&self) -> Option<u16> {
+        match self.depth {
+            1..=96 => Some(self.entries[self.depth - 1]),
+            _ => None,
         }
-        0
     }
 
-    // Push replies yes, or says that the stack is full.
-    pub fn push(self, y: u16) -> Handed
-        ensures { result ≡ pushing self.stack y }
-    {
-        let stack = self.stack;
-        let mut entries = stack.entries;
-        let mut depth = stack.depth;
+    #[tactic(auto, unfolding(crate::specs::Methods::pushing, rules::specs::Stack::full, rules::specs::Stack::pushed))]
+    fn push(self, y: u16) -> Handed {
+        let Stack {
+            mut entries,
+            mut depth,
+        } = self;
         let mut reply = StackReply::Full;
         if depth < 96 {
             entries[depth] = y;
@@ -81,15 +94,14 @@ impl Counters {
         }
     }
 
-    // Pop replies no on empty, else yes.
-    pub fn pop(self) -> Handed
-        ensures { result ≡ popping self.stack }
-    {
-        let stack = self.stack;
-        let mut entries = stack.entries;
-        let mut depth = stack.depth;
+    #[tactic(auto, using(crate::proofs::Methods::top_in), unfolding(crate::specs::Methods::popping, crate::specs::Methods::said, rules::specs::Stack::popped, rules::specs::Stack::without, rules::specs::Stack::nonempty))]
+    fn pop(self) -> Handed {
+        let Stack {
+            mut entries,
+            mut depth,
+        } = self;
         let mut reply = StackReply::No;
-        if names(96, depth) {
+        if self.top().is_some() {
             depth -= 1;
             entries[depth] = 0;
             reply = StackReply::Yes;
@@ -100,18 +112,13 @@ impl Counters {
         }
     }
 
-    // Compare replies yes exactly if not empty and the top equals y, and keeps it.
-    pub fn top_is(self, y: u16) -> Handed
-        ensures { result ≡ comparing self.stack y }
-    {
-        let stack = self.stack;
-        let d = stack.depth;
-        let mut reply = StackReply::No;
-        if names(96, d) {
-            if stack.entries[d - 1] == y {
-                reply = StackReply::Yes;
-            }
-        }
-        Handed { reply, stack }
+    #[tactic(auto, unfolding(crate::specs::Methods::comparing, crate::specs::Methods::said, rules::specs::Stack::equals))]
+    fn top_is(self, y: u16) -> Handed {
+        let reply = if self.top() == Some(y) {
+            StackReply::Yes
+        } else {
+            StackReply::No
+        };
+        Handed { reply, stack: self }
     }
 }

@@ -1,43 +1,51 @@
 // Stage 1: labels (3.6).
-ghost use Rattle.std.specs.Prelude.{◌≤◌};
-ghost use Rattle.rules.specs.Record.{count};
-ghost use Rattle.records.specs.Reading.{rec_at};
+ghost use Rattle.places.specs.declared.Stage.TheVariants as Stage;
+ghost use Rattle.places.specs.Groups.{staged};
 ghost use Rattle.places.specs.Writing.{Fitted};
-ghost use Rattle.places.specs.Groups.{labelled, staged};
 
-use labels::{place_of, target, target2};
-use places::Stage;
-use records::{kind_at, put_record, x_at, y_at};
+use labels::{target, target2};
+use places::{Expansion, File, write_groups};
+use records::{jump, put_record, record_at};
 
-// At place i, [s] becomes ##(i+1); a goto becomes ##m with m its target, 0 if it has none. Any other record stays.
-fn write_group(s: &[u8], i: usize, out: &mut [u8]) -> usize
-    requires { (count s.now ≤ 4096) × (1 ≤ i) × (i ≤ count s.now) }
-    ensures { Fitted (labelled s.now i (rec_at s.now i)) out.old out.new result }
-{
-    let kind = kind_at(s, i);
-    let x = x_at(s, i);
-    let y = y_at(s, i);
-    match kind {
-        5 => put_record(out, 4, (i + 1) as u16, 0),
-        6 => put_record(out, 4, place_of(target(s, x)) as u16, 0),
-        7 => put_record(out, 4, place_of(target2(s, x, y)) as u16, 0),
-        _ => put_record(out, kind, x, y),
+// The file: nothing is worked out of it before it is written.
+#[derive(Drop)]
+pub struct Labels<'a> {
+    file: File<'a>,
+}
+
+impl<'a> Expansion<'a> for Labels<'a> {
+    ghost stage = { Stage.Labels };
+
+    ghost given = { λ it. it.file.s.now };
+
+    fn file(&self) -> File<'a> {
+        self.file
+    }
+
+    // At place i, [s] becomes ##(i+1); a goto becomes ##m with m its target, 0 if it has none. Any other record stays.
+    fn write_group(&self, i: usize, out: &mut [u8]) -> usize {
+        let s = self.file.s;
+        let record = record_at(s, i);
+        // Each place is within 4,097, which is proved: try_from would add an arm that never runs.
+        put_record(
+            out,
+            match record.kind {
+                5 => jump((i + 1) as u16),
+                6 => jump(target(s, record.x).unwrap_or(0) as u16),
+                7 => jump(target2(s, record.x, record.y).unwrap_or(0) as u16),
+                _ => record,
+            },
+        )
     }
 }
 
-// The whole stage. Of a file longer than a base may be it writes nothing.
-pub(crate) fn expand_labels(s: &[u8], out: &mut [u8]) -> usize
+// The whole stage: each record's group goes into the unwritten rest of the output. Answers how many bytes it wrote. Of a file longer
+// than a base may be it writes nothing.
+pub fn expand_labels(s: &[u8], out: &mut [u8]) -> usize
     ensures { Fitted (staged Stage.Labels s.now) out.old out.new result }
 {
-    let n = s.len() / 8;
-    if 4096 < n {
+    if 4096 < s.len() / 8 {
         return 0;
     }
-    let mut at = 0;
-    let mut i = 0;
-    while i < n {
-        at += write_group(s, i + 1, &mut out[at..]);
-        i += 1;
-    }
-    at
+    write_groups(&Labels { file: File { s } }, out)
 }

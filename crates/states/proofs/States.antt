@@ -1,58 +1,59 @@
--- Soundness read place by place, and the replies byte by byte.
+-- Soundness of the entries in use and of the others, and the replies byte by byte.
 use mathlib.Core.Path.{◌≡◌, refl, ◌∙◌}
-use Prim.Native.Nat.{ℕ, zero, suc, ◌+◌, ◌-◌, ◌≤◌, ◌<◌}
+use Prim.Native.Nat.{ℕ, zero, suc, ◌+◌, ◌≤◌, max}
 use native.Mathlib.Omega.{arith}
 use native.Mathlib.Numerals.{add-one}
-use mathlib.Core.Bool.{true, false, ◌&&◌}
-use mathlib.Core.Option.{none, some}
-use mathlib.Core.List.{List, ◌∷◌}
-use lib.ListN.{length, drop, get_or, drop_of_length-le}
-use lib.Seq.{drop-cons}
-use borrow.Author.Tests.{lt-ltb, le-ltb, le-leb, lt-leb}
+use mathlib.Core.Bool.{Bool, true, false, ◌&&◌, cond}
+use mathlib.Core.List.{List, [], ◌∷◌}
+use lib.ListN.{take, drop}
+use lib.Dec.{leb, ltb, eqb}
+use borrow.Author.Tests.{leb-true, leb-false, lt-ltb, le-ltb}
+use Rattle.std.specs.Prelude.{option_map, None, Some}
+use Rattle.std.specs.List.{fold, list_all, position, position_from}
+use Rattle.std.proofs.lemmas.Iterator.Adapters.{position_from-zero}
 use Rattle.rules.specs.declared.Refusal.TheVariants.{Reply}
 use Rattle.rules.specs.Refusals.{when_at}
-use Rattle.rules.specs.Answers.{entries_sound, bad_reply_from}
-use Rattle.states.specs.States.{entry_fine}
+use Rattle.rules.specs.Answers.{entries_sound, bad_reply, bad_reply_from}
 
--- Where d - i entries are in use from place i on.
-module _ (d i : ℕ) (es : List ℕ) (h : i < length es) where
-  pub entries_next : entries_sound (d - i) (drop i es) ≡ entry_fine d i (get_or es i 0) && entries_sound (d - (i + 1)) (drop (i + 1) es)
-  unfolding entries_sound entry_fine
-  entries_next = rw (drop-cons es i 0 h, add-one) (by (d - i) refl)
-    where
-      by : (e : ℕ) → d - i ≡ e → entries_sound e (get_or es i 0 ∷ drop (suc i) es) ≡ entry_fine d i (get_or es i 0) && entries_sound (d - suc i) (drop (suc i) es)
-      by zero q = let z : d - suc i ≡ 0 = omega arith in rw (le-ltb i d (omega arith), z)
-      by (suc e) q = let z : d - suc i ≡ e = omega arith in rw (lt-ltb i d (omega arith), z)
+and_assoc : (a b c : Bool) → a && (b && c) ≡ a && b && c
+and_assoc true b c = refl
+and_assoc false b c = refl
 
-  pub entries-bad : entry_fine d i (get_or es i 0) ≡ false → entries_sound (d - i) (drop i es) ≡ false
-  entries-bad q = entries_next ∙ rw q
-
-  pub entries_good : entry_fine d i (get_or es i 0) ≡ true → entries_sound (d - i) (drop i es) ≡ entries_sound (d - (i + 1)) (drop (i + 1) es)
-  entries_good q = entries_next ∙ rw q
-
-pub entries-end : (d i : ℕ) (es : List ℕ) → length es ≤ i → entries_sound (d - i) (drop i es) ≡ true
+pub entries_split : (d : ℕ) (es : List ℕ) → entries_sound d es ≡ list_all (λ v. leb v 9999) (take d es) && list_all (λ v. eqb v 0) (drop d es)
 unfolding entries_sound
-entries-end d i es h = rw (drop_of_length-le es {i = i} h)
+entries_split zero [] = refl
+entries_split (suc d) [] = refl
+entries_split zero (e ∷ es) = rw (entries_split zero es)
+entries_split (suc d) (e ∷ es) = rw (entries_split d es) (and_assoc (leb e 9999) _ _)
 
--- The replies from byte i + 1 on.
-module _ (i : ℕ) (rs : List ℕ) (h : i < length rs) where
-  pub reply-bad : 1 < get_or rs i 0 → bad_reply_from (suc i) (drop i rs) ≡ suc i
-  unfolding bad_reply_from
-  reply-bad q = rw (drop-cons rs i 0 h, lt-leb (get_or rs i 0) 1 q)
+-- The greatest byte so far is not above the greatest of all.
+above : (a : ℕ) (rs : List ℕ) → a ≤ fold (λ m r. max m r) a rs
+above a [] = omega arith
+above a (r ∷ rs) = let h = above (max a r) rs in omega (arith, h)
 
-  pub reply_good : get_or rs i 0 ≤ 1 → bad_reply_from (suc i) (drop i rs) ≡ bad_reply_from (suc (i + 1)) (drop (i + 1) rs)
-  unfolding bad_reply_from
-  reply_good q = rw (drop-cons rs i 0 h, le-leb (get_or rs i 0) 1 q, add-one)
+above_fine : (a i : ℕ) (rs : List ℕ) → fold (λ m r. max m r) a rs ≤ 1 → position_from (λ r. ltb 1 r) i rs ≡ None
+above_fine a i [] h = refl
+above_fine a i (r ∷ rs) h =
+    let b = above (max a r) rs in
+    let l : r ≤ 1 = omega (arith, b, h) in
+    rw (le-ltb 1 r l) (above_fine (max a r) (i + 1) rs h)
 
-pub reply-end : (i j : ℕ) (rs : List ℕ) → length rs ≤ i → bad_reply_from j (drop i rs) ≡ 0
-unfolding bad_reply_from
-reply-end i j rs h = rw (drop_of_length-le rs {i = i} h)
+pub fine : (rs : List ℕ) → fold (λ m r. max m r) 0 rs ≤ 1 → position (λ r. ltb 1 r) rs ≡ None
+fine rs h = position_from-zero (λ r. ltb 1 r) rs ∙ above_fine 0 0 rs h
 
-pub when_at_lem : (k j : ℕ) → k ≡ j → ¬ (k ≡ 0) → when_at Reply j ≡ some (Reply k)
-unfolding when_at
-when_at_lem k zero e h = absurd (h e)
-when_at_lem k (suc j) e h = rw e
+-- The place of the first bad byte, as a number from 1.
+bad_from : (i : ℕ) (rs : List ℕ) → when_at Reply (bad_reply_from (suc i) rs) ≡ option_map (λ k. Reply (k + 1)) (position_from (λ r. ltb 1 r) i rs)
+unfolding bad_reply_from when_at
+bad_from i [] = refl
+bad_from i (r ∷ rs) = by (leb r 1) refl (bad_from (i + 1) rs)
+  where
+    by : (b : Bool) → leb r 1 ≡ b
+        → when_at Reply (bad_reply_from (suc (i + 1)) rs) ≡ option_map (λ k. Reply (k + 1)) (position_from (λ r. ltb 1 r) (i + 1) rs)
+        → when_at Reply (cond (leb r 1) (bad_reply_from (suc (suc i)) rs) (suc i))
+        ≡ option_map (λ k. Reply (k + 1)) (cond (ltb 1 r) (Some i) (position_from (λ r. ltb 1 r) (i + 1) rs))
+    by true e h = rw (e, le-ltb 1 r (leb-true r 1 e), add-one) (rw add-one at h)
+    by false e h = rw (e, lt-ltb 1 r (leb-false r 1 e), add-one)
 
-pub when_zero : (k j : ℕ) → k ≡ j → k ≡ 0 → when_at Reply j ≡ none
-unfolding when_at
-when_zero k j e h = rw (← e, h)
+pub first_bad : (rs : List ℕ) → when_at Reply (bad_reply rs) ≡ option_map (λ k. Reply (k + 1)) (position (λ r. ltb 1 r) rs)
+unfolding bad_reply
+first_bad rs = rw (position_from-zero (λ r. ltb 1 r) rs) (bad_from 0 rs)

@@ -1,7 +1,7 @@
 -- A table that is filled entry by entry.
 --     Entries     of the table of f on n records, those above lo up to hi are there; entry 0 is 0, and what lies beyond n is as it was
 --     begun, entered, all_entered     at the start; one entry more; at the end
---     not_filled, roomy     a table that is left as it is; one that has room
+--     last_entered     the last entry of a pass from the left
 --     looked_zero, looked_in, looked     a table that was zero before, looked into: at 0, at a record, and at any number
 use mathlib.Core.Path.{◌≡◌, refl, sym, ap, ◌∙◌}
 use Prim.Native.Nat.{ℕ, zero, suc, ◌+◌, ◌-◌, ◌≤◌, ◌<◌}
@@ -68,22 +68,20 @@ module _ (f : ℕ → ℕ) (n : ℕ) where
     unfolding filled room whole
     is_filled l h = rw (le-leb n 4096 l, lt-ltb n (length t) h)
 
-    pub not_filled : {r : Bool} → r ≡ room n t → r ≡ false → filled f n t ≡ t
-    unfolding filled
-    not_filled e q = rw (← e, q)
-
-pub roomy : (n : ℕ) (t : List ℕ) {r : Bool} → r ≡ room n t → r ≡ true → (n ≤ 4096) × (n < length t)
+roomy : (n : ℕ) (t : List ℕ) {r : Bool} → r ≡ room n t → r ≡ true → (n ≤ 4096) × (n < length t)
 unfolding room
 roomy n t e q = by (leb n 4096) (ltb n (length t)) refl refl (sym e ∙ q)
   where
     by : (a b : Bool) → leb n 4096 ≡ a → ltb n (length t) ≡ b → a && b ≡ true → (n ≤ 4096) × (n < length t)
     by true true f g z = (leb-true n 4096 f, ltb-true n (length t) g)
-    by true false f g z = absurd (let x : ◌≡◌ {A = ℕ} 0 1 = cc in omega arith)
-    by false b f g z = absurd (let x : ◌≡◌ {A = ℕ} 0 1 = cc in omega arith)
+    by true false f g z = absurd cc
+    by false b f g z = absurd cc
 
 -- ## Filling it
 
 pub record Entries (f : ℕ → ℕ) (lo hi n : ℕ) (t₀ t : List ℕ) : Type 0 where
+  pub short : n ≤ 4096
+  pub within : n < length t₀
   pub long : length t ≡ length t₀
   pub none : get_or t 0 0 ≡ 0
   pub some : (k : ℕ) → lo < k → k ≤ hi → get_or t k 0 ≡ f k
@@ -91,13 +89,15 @@ pub record Entries (f : ℕ → ℕ) (lo hi n : ℕ) (t₀ t : List ℕ) : Type 
 
 module _ (f : ℕ → ℕ) where
   -- A table begins with its entry 0.
-  pub begun : (i n : ℕ) (t : List ℕ) → n < length t → Entries f i i n (set t 0 0) (set t 0 0)
-  begun i n t l = record { long = refl; none = get_or-set_same t 0 0 0 (omega arith); some = λ k a b. absurd (omega arith); rest = λ k h. refl }
+  pub begun : (i n : ℕ) (t : List ℕ) {r : Bool} → r ≡ room n t → r ≡ true → Entries f i i n (set t 0 0) (set t 0 0)
+  begun i n t e q = let l = roomy n t e q in record { short = l.0; within = omega (arith, l.1, length-set t 0 0); long = refl; none = get_or-set_same t 0 0 0 (omega (arith, l.1)); some = λ k a b. absurd (omega arith); rest = λ k h. refl }
 
   -- Entry i is written; what is then there is that one and what was there before.
-  pub entered : {lo hi n : ℕ} (lo' hi' : ℕ) {t₀ t : List ℕ} (i v : ℕ) → 1 ≤ i → i ≤ n → n < length t₀ → v ≡ f i
+  pub entered : {lo hi n : ℕ} (lo' hi' : ℕ) {t₀ t : List ℕ} (i v : ℕ) → 1 ≤ i → i ≤ n → v ≡ f i
       → ((k : ℕ) → lo' < k → k ≤ hi' → ¬ (k ≡ i) → (lo < k) × (k ≤ hi)) → Entries f lo hi n t₀ t → Entries f lo' hi' n t₀ (set t i v)
-  entered {lo} {hi} {n} lo' hi' {t₀} {t} i v l h m e was u = record {
+  entered {lo} {hi} {n} lo' hi' {t₀} {t} i v l h e was u = record {
+    short = u.short;
+    within = u.within;
     long = length-set t i v ∙ u.long;
     none = get_or-set_other t i 0 v 0 (λ z. omega arith) ∙ u.none;
     some = λ k a b. by k a b (eqb k i) refl;
@@ -105,20 +105,26 @@ module _ (f : ℕ → ℕ) where
   }
     where
       by : (k : ℕ) → lo' < k → k ≤ hi' → (b : Bool) → eqb k i ≡ b → get_or (set t i v) k 0 ≡ f k
-      by k a b true q = let z = eqb-true k i q in rw z (get_or-set_same t i v 0 (omega (arith, u.long)) ∙ e)
+      by k a b true q = let z = eqb-true k i q in rw z (get_or-set_same t i v 0 (omega (arith, u.long, u.within)) ∙ e)
       by k a b false q =
           let z = eqb-false k i q in
           let w = was k a b z in
           get_or-set_other t i k v 0 z ∙ u.some k w.0 w.1
 
-  pub all_entered : {lo hi n : ℕ} (t₀ : List ℕ) {t : List ℕ} → lo ≡ 0 → n ≤ hi → n ≤ 4096 → n < length t₀ → Entries f lo hi n (set t₀ 0 0) t → t ≡ filled f n t₀
-  all_entered {n = n} t₀ {t} a b l h u =
+  pub all_entered : {lo hi n : ℕ} (t₀ : List ℕ) {t : List ℕ} → lo ≡ 0 → n ≤ hi → Entries f lo hi n (set t₀ 0 0) t → t ≡ filled f n t₀
+  all_entered {n = n} t₀ {t} a b u =
+      let l : n ≤ 4096 = u.short in
+      let h : n < length t₀ = omega (arith, u.within, length-set t₀ 0 0) in
       ext_get_or 0 t (whole f n t₀) (u.long ∙ length-set t₀ 0 0 ∙ sym (whole_length f n t₀ h)) (λ k c. by k (leb k n) refl) ∙ sym (is_filled f n t₀ l h)
     where
       by : (k : ℕ) (b : Bool) → leb k n ≡ b → get_or t k 0 ≡ get_or (whole f n t₀) k 0
       by zero b q = u.none ∙ sym (whole_zero f n t₀)
       by (suc k) true q = let g = leb-true (suc k) n q in u.some (suc k) (omega arith) (omega arith) ∙ sym (whole_at f n t₀ (suc k) (omega arith) g)
       by (suc k) false q = let g = leb-false (suc k) n q in u.rest (suc k) g ∙ get_or-set_other t₀ 0 (suc k) 0 0 (λ e. omega arith) ∙ sym (whole_beyond f n t₀ (suc k) g)
+
+  -- From the left, the last entry.
+  pub last_entered : (n i v : ℕ) (t₀ t : List ℕ) → Entries f 0 (i - 1) n (set t₀ 0 0) t → 1 ≤ i → i ≤ n → n ≤ i → v ≡ f i → set t i v ≡ filled f n t₀
+  last_entered n i v t₀ t u l h m e = all_entered t₀ refl m (entered 0 i i v l h e (λ k a b z. (a, omega arith)) u)
 
   -- ## A table that was zero before
 

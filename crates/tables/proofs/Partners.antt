@@ -5,7 +5,7 @@
 use mathlib.Core.Path.{◌≡◌, refl, sym, ◌∙◌}
 use Prim.Native.Nat.{ℕ, zero, suc, ◌+◌, ◌≤◌, ◌<◌}
 use mathlib.Core.Bool.{Bool, true, false, cond}
-use mathlib.Core.Option.{Option, none, some}
+use Rattle.std.specs.Prelude.{Option, None, Some}
 use mathlib.Core.List.{List}
 use lib.ListN.{get_or, replicate}
 use native.Mathlib.Omega.{arith}
@@ -37,8 +37,8 @@ past-some (suc k) h = omega arith
 -- A loop has no separators, so that its end is where its arm ends.
 no_parts : (o : Option Op) → parting (role_at loop o) ≡ false
 unfolding parting role_at role role_of
-no_parts none = refl
-no_parts (some o) = by (bracket o)
+no_parts None = refl
+no_parts (Some o) = by (bracket o)
   where
     by : (x : Bracket) → parting (role_of loop x) ≡ false
     by (opener conditional) = refl

@@ -4,14 +4,13 @@
 --     found     what is found is a record further on; an end, where separators do not count
 --     settled     the end that is found, by what is found where separators count
 --     deeper     a search one item deeper goes on behind the end that is found
---     passed     one record passed, by its role
 --     entry_known, top-next     one record passed: what the table then has, and what is behind the record before it
 use mathlib.Core.Path.{◌≡◌, refl, sym, ap, ◌∙◌}
 use Prim.Native.Nat.{ℕ, zero, suc, ◌-◌, ◌≤◌, ◌<◌}
 use native.Mathlib.Omega.{arith}
 use mathlib.Core.Bool.{Bool, true, false, cond}
 use mathlib.Core.List.{List}
-use lib.ListN.{length, drop, get_or, set}
+use lib.ListN.{length, drop, get_or}
 use Rattle.rules.specs.Record.{count}
 use Rattle.rules.specs.Instruction.{Sort, Op, jump, ops}
 use Rattle.rules.specs.Numbers.{at, given}
@@ -20,7 +19,7 @@ use Rattle.laws.proofs.Records.{at-get_or, ops-length}
 use Rattle.laws.proofs.Partners.{stop_here, stop_out, role_of_kind, role_at}
 use Rattle.records.specs.Reading.{rec_at}
 use Rattle.partners.proofs.Roles.{role-at}
-use Rattle.tables.specs.Passing.{parting, stop_of, end_by, entry_of, top_of, Passed}
+use Rattle.tables.specs.Passing.{parting, stop_of, end_by, entry_of, top_of}
 use Rattle.tables.proofs.Filling.{Entries}
 
 module _ (b : Sort) (L : List Op) where
@@ -69,7 +68,7 @@ module _ (b : Sort) (L : List Op) where
   unfolding stop_at parting
   found-step w opens d i h q f = on (suc d) (turn w d i opens h q) (f (suc d))
   found-step false parts d i h q f = on d (turn false d i parts h q) (f d)
-  found-step true parts zero i h q f = it h (turn true zero i parts h q) (λ z. absurd (let x : ◌≡◌ {A = ℕ} 0 1 = cc in omega arith))
+  found-step true parts zero i h q f = it h (turn true zero i parts h q) (λ z. absurd cc)
   found-step true parts (suc d) i h q f = on (suc d) (turn true (suc d) i parts h q) (f (suc d))
   found-step w ends zero i h q f = it h (turn w zero i ends h q) (λ z. rw q)
   found-step w ends (suc d) i h q f = on d (turn w (suc d) i ends h q) (f d)
@@ -115,12 +114,6 @@ module _ (b : Sort) (L : List Op) where
       step ends zero i h q f = turn true 1 i ends h q ∙ ap beyond (sym (turn false zero i ends h q))
       step ends (suc d) i h q f = turn true (suc (suc d)) i ends h q ∙ f d ∙ ap beyond (sym (turn false (suc d) i ends h q))
       step other d i h q f = turn true (suc d) i other h q ∙ f d ∙ ap beyond (sym (turn false d i other h q))
-
--- ## One record passed, by the role that was read of it
-
-pub passed : {b : Sort} {s t t' : List ℕ} {i top x kind : ℕ} {r : Role} → kind ≡ (rec_at s i).kind → role_of_kind b kind ≡ r → x ≡ top_of r i top (get_or t (end_by b s t top) 0)
-    → t' ≡ set t i (entry_of r top (end_by b s t top)) → Passed b s t i top x t'
-passed k e f g = record { behind = rw (← k, e) f; entry = rw (← k, e) g }
 
 -- ## Those behind i are in the table, and `top` is where the arm behind i ends
 

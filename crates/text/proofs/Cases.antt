@@ -1,14 +1,13 @@
 -- Texts read and routines written by the definitions, row by row.
 use mathlib.Core.Path.{◌≡◌}
 use Prim.Native.String.{String}
-use Rattle.std.specs.Prelude.{◌∷◌, ◌++◌}
+use Rattle.std.specs.Prelude.{◌∷◌, ◌++◌, Ok, Err}
 use Rattle.rules.specs.Words.{ℕ, List, [], map, replicate}
 use Rattle.rules.specs.declared.Refusal.TheVariants.{Ragged, Long, Kind, Field, Room}
 use Rattle.rules.specs.Record.{Rec, rec, bytes_of}
 use Rattle.rules.specs.Instruction.{encode}
 use Rattle.rules.proofs.Cases.{listed, there_and_back}
 use Rattle.text.specs.declared.TextRefusal.TheVariants.{Text, Name, Earlier}
-use Rattle.text.specs.declared.TextVerdict.TheVariants.{Done, Refused}
 use Rattle.text.specs.Bytes.{ascii}
 use Rattle.text.specs.Names.{padded, entries}
 use Rattle.text.specs.Reading.{Reading, reads, refused, read_text}
@@ -134,12 +133,12 @@ Cases =
     × (read ten "[5]; a1; ##[5]" ≡ reads (rec 5 1 0 ∷ rec 1 1 0 ∷ rec 6 1 0 ∷ []))
     × (read (list_of ("take" ∷ "log" ∷ "three" ∷ [])) "+three{; take; }; log" ≡ reads (rec 8 3 0 ∷ rec 1 1 0 ∷ rec 11 0 0 ∷ rec 1 2 0 ∷ []))
     -- What read_text answers: 13 at 0 for a list that is ragged; 12 and 13 before 2, and 2 before 8; the numbers of 12 and 13.
-    × (reading (ascii "$") (0 ∷ names) [] ≡ Refused (Name 0))
-    × (reading (ascii "take") names (replicate 7 9) ≡ Refused (Earlier Room))
-    × (reading (ascii "take;!") names (replicate 17 9) ≡ Done 2)
-    × (fits (reads (replicate 513 (rec 11 0 0))) [] ≡ Refused (Earlier Long))
-    × (filled (Done 1) (bytes_read (ascii "##258") names) (replicate 9 7) ≡ 4 ∷ 0 ∷ 2 ∷ 1 ∷ 0 ∷ 0 ∷ 0 ∷ 0 ∷ 7 ∷ [])
-    × (filled (Refused (Name 0)) (ascii "x") (replicate 2 7) ≡ 7 ∷ 7 ∷ [])
+    × (reading (ascii "$") (0 ∷ names) [] ≡ Err (Name 0))
+    × (reading (ascii "take") names (replicate 7 9) ≡ Err (Earlier Room))
+    × (reading (ascii "take;!") names (replicate 17 9) ≡ Ok 2)
+    × (fits (reads (replicate 513 (rec 11 0 0))) [] ≡ Err (Earlier Long))
+    × (filled (Ok 1) (bytes_read (ascii "##258") names) (replicate 9 7) ≡ 4 ∷ 0 ∷ 2 ∷ 1 ∷ 0 ∷ 0 ∷ 0 ∷ 0 ∷ 7 ∷ [])
+    × (filled (Err (Name 0)) (ascii "x") (replicate 2 7) ≡ 7 ∷ 7 ∷ [])
     × (map told (Text 5 ∷ Name 0 ∷ Earlier Long ∷ Earlier Room ∷ []) ≡ record { number = 12; place = 5 } ∷ record { number = 13; place = 0 } ∷ record { number = 2; place = 0 } ∷ record { number = 8; place = 0 } ∷ [])
     -- A routine written: instructions joined by `; `, labels as L1, L2, no leading zeros; and read again.
     × (text_of (entries names) [] ≡ [])
@@ -148,13 +147,13 @@ Cases =
     × (text_of (entries ten) (map encode there_and_back) ≡ ascii "R##4; a1; !; a2; ##R")
     × (read_text (text_of (entries names) (rec 5 1 0 ∷ sample)) (entries names) ≡ reads (rec 5 1 0 ∷ sample))
     -- What write_text answers: 1 to 4 of the routine; 13 at 0 for the list, then at the record whose action has no proper name; 8.
-    × (writing (0 ∷ []) (0 ∷ []) [] ≡ Refused (Earlier Ragged))
-    × (writing (bytes_of (rec 1 9 0 ∷ rec 1 1000 0 ∷ [])) (0 ∷ []) [] ≡ Refused (Earlier (Field 2)))
-    × (writing (bytes_of (rec 17 0 0 ∷ [])) (0 ∷ []) [] ≡ Refused (Earlier (Kind 1)))
-    × (writing (bytes_of (rec 1 9 0 ∷ [])) (0 ∷ []) [] ≡ Refused (Name 0))
-    × (writing (bytes_of (rec 4 9 0 ∷ rec 2 3 0 ∷ rec 12 4 0 ∷ [])) names [] ≡ Refused (Name 3))
-    × (writing (bytes_of (rec 1 1 0 ∷ rec 1 2 0 ∷ [])) (list_of ("a" ∷ "" ∷ [])) [] ≡ Refused (Name 2))
-    × (writing (bytes_of (rec 1 1 0 ∷ rec 1 2 0 ∷ [])) (list_of ("a" ∷ "a\0b" ∷ [])) [] ≡ Refused (Name 2))
-    × (writing (bytes_of (rec 1 1 0 ∷ rec 1 2 0 ∷ [])) (list_of ("a" ∷ "a" ∷ [])) (replicate 4 9) ≡ Done 4)
-    × (writing (bytes_of (rec 1 1 0 ∷ rec 10 0 0 ∷ [])) names (replicate 7 9) ≡ Refused (Earlier Room))
-    × (writing (bytes_of (rec 1 1 0 ∷ rec 10 0 0 ∷ [])) names (replicate 8 9) ≡ Done 8)
+    × (writing (0 ∷ []) (0 ∷ []) [] ≡ Err (Earlier Ragged))
+    × (writing (bytes_of (rec 1 9 0 ∷ rec 1 1000 0 ∷ [])) (0 ∷ []) [] ≡ Err (Earlier (Field 2)))
+    × (writing (bytes_of (rec 17 0 0 ∷ [])) (0 ∷ []) [] ≡ Err (Earlier (Kind 1)))
+    × (writing (bytes_of (rec 1 9 0 ∷ [])) (0 ∷ []) [] ≡ Err (Name 0))
+    × (writing (bytes_of (rec 4 9 0 ∷ rec 2 3 0 ∷ rec 12 4 0 ∷ [])) names [] ≡ Err (Name 3))
+    × (writing (bytes_of (rec 1 1 0 ∷ rec 1 2 0 ∷ [])) (list_of ("a" ∷ "" ∷ [])) [] ≡ Err (Name 2))
+    × (writing (bytes_of (rec 1 1 0 ∷ rec 1 2 0 ∷ [])) (list_of ("a" ∷ "a\0b" ∷ [])) [] ≡ Err (Name 2))
+    × (writing (bytes_of (rec 1 1 0 ∷ rec 1 2 0 ∷ [])) (list_of ("a" ∷ "a" ∷ [])) (replicate 4 9) ≡ Ok 4)
+    × (writing (bytes_of (rec 1 1 0 ∷ rec 10 0 0 ∷ [])) names (replicate 7 9) ≡ Err (Earlier Room))
+    × (writing (bytes_of (rec 1 1 0 ∷ rec 10 0 0 ∷ [])) names (replicate 8 9) ≡ Ok 8)

@@ -3,3 +3,4 @@ pub mod Cases
 pub mod Table
 pub mod Tests
 pub mod Reach
+pub mod Once

@@ -8,12 +8,10 @@ use Prim.Native.Nat.{◌≤◌, ◌<◌}
 use native.Mathlib.Omega.{arith}
 use lib.ListN.{get_or-eq_default}
 use borrow.Author.Tests.{ltb-true, ltb-false, eqb-true, eqb-false, leb-false}
-use Rattle.std.specs.Prelude.{◌+◌}
+use Rattle.std.specs.Prelude.{◌+◌, Result, Ok, Err}
 use Rattle.rules.specs.Words.{ℕ, zero, suc, true, false, cond, List, length, eqb, leb, ltb}
 use Rattle.text.specs.declared.Sort.{Sort}
 use Rattle.text.specs.declared.Sort.TheVariants.{Blank, Digit, Named}
-use Rattle.text.specs.declared.Took.{Took}
-use Rattle.text.specs.declared.Took.TheVariants.{On, Off}
 use Rattle.text.specs.Bytes.{byte_at, blank, digit, letter, in_sort, run, span}
 use Rattle.text.specs.Forms.{Part, itself, name, number, part_of, take_run, take_part, take_sign}
 use Rattle.text.proofs.Tests.{by_test, cond_has, never}
@@ -39,9 +37,9 @@ span-within c w at (suc n) h =
     (λ t. let r : suc at + span c w (suc at) n ≤ length w = span-within c w (suc at) n (in_text c w at t) in rw t (omega arith))
     (λ t. rw t (omega arith))
 
-abbrev pub Reach : List ℕ → ℕ → Took → Type 0
-Reach w at (On e) = (at < e) × (e ≤ length w)
-Reach w at (Off e) = (at ≤ e) × (e ≤ length w)
+abbrev pub Reach : List ℕ → ℕ → Result ℕ ℕ → Type 0
+Reach w at (Ok e) = (at < e) × (e ≤ length w)
+Reach w at (Err e) = (at ≤ e) × (e ≤ length w)
 
 module _ (w : List ℕ) (at : ℕ) where
   pub byte_there : (byte_at w at ≡ 0 → ⊥) → at < length w
@@ -52,16 +50,16 @@ module _ (w : List ℕ) (at : ℕ) where
   run_reach c most h =
       let n = span c w at (suc most) in
       let i : at + n ≤ length w = span-within c w at (suc most) h in
-      cond_has (Reach w at) (eqb n 0) (Off at) (cond (leb n most) (On (at + n)) (Off (at + most)))
+      cond_has (Reach w at) (eqb n 0) (Err at) (cond (leb n most) (Ok (at + n)) (Err (at + most)))
       (λ e. (omega arith, omega arith))
-      (λ e. cond_has (Reach w at) (leb n most) (On (at + n)) (Off (at + most))
+      (λ e. cond_has (Reach w at) (leb n most) (Ok (at + n)) (Err (at + most))
       (λ l. (omega (arith, eqb-false n 0 e), omega arith))
       (λ l. (omega arith, omega (arith, leb-false n most l))))
 
   part_reach : (q : Part) (p : ℕ) → 0 < p → at ≤ length w → Reach w at (take_part q p w at)
   unfolding take_part
   part_reach itself p pos h =
-      cond_has (Reach w at) (eqb (byte_at w at) p) (On (at + 1)) (Off at)
+      cond_has (Reach w at) (eqb (byte_at w at) p) (Ok (at + 1)) (Err at)
       (λ e. let b : at < length w = byte_there (λ z. omega (arith, eqb-true (byte_at w at) p e)) in (omega arith, omega arith))
       (λ _. (omega arith, omega arith))
   part_reach name p pos h = run_reach _ _ h

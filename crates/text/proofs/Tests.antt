@@ -3,8 +3,7 @@
 --     cond_has     a choice has what each of its sides has where the test leads to it
 --     never        a test does not go both ways
 use mathlib.Core.Path.{◌≡◌, refl}
-use native.Mathlib.Omega.{arith}
-use Rattle.rules.specs.Words.{ℕ, Bool, true, false, cond}
+use Rattle.rules.specs.Words.{Bool, true, false, cond}
 
 pub by_test : {P : Type 0} (t : Bool) → (t ≡ true → P) → (t ≡ false → P) → P
 by_test true f g = f refl
@@ -15,4 +14,4 @@ cond_has P true x y f g = f refl
 cond_has P false x y f g = g refl
 
 pub never : {P : Type 0} → true ≡ false → P
-never h = absurd (let y : ◌≡◌ {A = ℕ} 0 1 = cc in omega arith)
+never h = cc

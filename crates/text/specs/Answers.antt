@@ -1,6 +1,6 @@
 -- What the two calls answer, and what the lent buffer then holds, on every input.
-use Rattle.std.specs.Prelude.{◌≡◌, ◌++◌}
-use Rattle.rules.specs.Words.{ℕ, cond, Option, none, some, List, [], length, drop, eqb, ltb}
+use Rattle.std.specs.Prelude.{◌≡◌, ◌++◌, Result, Ok, Err}
+use Rattle.rules.specs.Words.{ℕ, cond, Option, None, Some, List, [], length, drop, eqb, ltb}
 use Rattle.rules.specs.declared.Refusal.{Refusal}
 use Rattle.rules.specs.declared.Refusal.TheVariants.{Long, Room}
 use Rattle.rules.specs.declared.Notation.TheVariants.{Routine}
@@ -11,8 +11,6 @@ use Rattle.rules.specs.Checks.{most, record_checks}
 use Rattle.rules.specs.Answers.{short}
 use Rattle.text.specs.declared.TextRefusal.{TextRefusal}
 use Rattle.text.specs.declared.TextRefusal.TheVariants.{Text, Name, Earlier}
-use Rattle.text.specs.declared.TextVerdict.{TextVerdict}
-use Rattle.text.specs.declared.TextVerdict.TheVariants.{Done, Refused}
 use Rattle.text.specs.Names.{entries, list_fault}
 use Rattle.text.specs.Reading.{Reading, reads, refused, read_text}
 use Rattle.text.specs.Writing.{text_of, nameless}
@@ -23,18 +21,22 @@ told (Text p) = record { number = 12; place = p }
 told (Name p) = record { number = 13; place = p }
 told (Earlier r) = paper.told r
 
+-- What the two calls answer: how many records were read or bytes written, or why not.
+abbrev pub TextVerdict : Type 0
+TextVerdict = Result ℕ TextRefusal
+
 -- ## Reading
 
 unfoldable pub fits : Reading → List ℕ → TextVerdict
-fits (refused r) out = Refused r
+fits (refused r) out = Err r
 fits (reads rs) out =
-    cond (ltb (most Routine) (length rs)) (Refused (Earlier Long))
-    (cond (short (length rs) out) (Refused (Earlier Room))
-    (Done (length rs)))
+    cond (ltb (most Routine) (length rs)) (Err (Earlier Long))
+    (cond (short (length rs) out) (Err (Earlier Room))
+    (Ok (length rs)))
 
 -- read_text(text, names, out): 13 at 0 for the list; then 12 and 13, whichever comes first; then 2 and 8, no others.
 unfoldable pub reading : List ℕ → List ℕ → List ℕ → TextVerdict
-reading w l out = cond (list_fault l) (Refused (Name 0)) (fits (read_text w (entries l)) out)
+reading w l out = cond (list_fault l) (Err (Name 0)) (fits (read_text w (entries l)) out)
 
 unfoldable pub records_read : Reading → List Rec
 records_read (reads rs) = rs
@@ -46,25 +48,25 @@ records_read (refused r) = []
 unfoldable pub writes : ℕ → List ℕ → List ℕ → TextVerdict
 writes p u text =
     cond (eqb p 0)
-    (cond (ltb (length text) (length u)) (Refused (Earlier Room)) (Done (length u)))
-    (Refused (Name p))
+    (cond (ltb (length text) (length u)) (Err (Earlier Room)) (Ok (length u)))
+    (Err (Name p))
 
 unfoldable pub unless_refused : Option Refusal → TextVerdict → TextVerdict
-unless_refused none v = v
-unless_refused (some r) v = Refused (Earlier r)
+unless_refused None v = v
+unless_refused (Some r) v = Err (Earlier r)
 
 -- write_text(routine, names, text): 1 to 4 of the routine; 13 at 0 for the list, else at the record; then 8.
 unfoldable pub writing : List ℕ → List ℕ → List ℕ → TextVerdict
 writing s l text =
     unless_refused (first (record_checks Routine s))
-    (cond (list_fault l) (Refused (Name 0)) (writes (nameless (entries l) (records s)) (text_of (entries l) (records s)) text))
+    (cond (list_fault l) (Err (Name 0)) (writes (nameless (entries l) (records s)) (text_of (entries l) (records s)) text))
 
 -- ## The contract of both
 
 -- A refused call writes nothing; one that succeeds fills the first bytes of the buffer, and keeps the rest.
 unfoldable pub filled : TextVerdict → List ℕ → List ℕ → List ℕ
-filled (Done n) u out = u ++ drop (length u) out
-filled (Refused r) u out = out
+filled (Ok n) u out = u ++ drop (length u) out
+filled (Err r) u out = out
 
 -- The verdict v on a call that writes u.
 pub record Answered (v : TextVerdict) (u out : List ℕ) (answer : TextVerdict) (out' : List ℕ) : Type 0 where

@@ -1,11 +1,9 @@
 -- The forms of an instruction, and how far a text follows one.
 use Prim.Native.Char.{code}
-use Rattle.std.specs.Prelude.{◌+◌, ◌||◌, ◌∷◌}
+use Rattle.std.specs.Prelude.{◌+◌, ◌||◌, ◌∷◌, Result, Ok, Err}
 use Rattle.rules.specs.Words.{ℕ, zero, suc, Bool, true, false, cond, List, [], length, get_or, eqb, leb, ltb}
 use Rattle.text.specs.declared.Sort.{Sort}
 use Rattle.text.specs.declared.Sort.TheVariants.{Blank, Digit, Named}
-use Rattle.text.specs.declared.Took.{Took}
-use Rattle.text.specs.declared.Took.TheVariants.{On, Off}
 use Rattle.text.specs.declared.Fit.{Fit}
 use Rattle.text.specs.Bytes.{ascii, byte_at, span}
 
@@ -52,20 +50,22 @@ pub data Part : Type 0 where
 unfoldable pub part_of : ℕ → Part
 part_of p = cond (eqb p k) number (cond (eqb p a || eqb p s || eqb p t) name itself)
 
+-- A sign along a text: where what follows it starts, or else the first byte that cannot be.
+
 -- 1 to `most` bytes of a sort: the first byte that cannot be is the first one, if it is not of the sort, or the one after `most`.
-unfoldable pub take_run : Sort → ℕ → List ℕ → ℕ → Took
+unfoldable pub take_run : Sort → ℕ → List ℕ → ℕ → Result ℕ ℕ
 take_run c most w at =
     let n = span c w at (suc most) in
-    cond (eqb n 0) (Off at) (cond (leb n most) (On (at + n)) (Off (at + most)))
+    cond (eqb n 0) (Err at) (cond (leb n most) (Ok (at + n)) (Err (at + most)))
 
 -- A name is 1 to 16 letters or digits, a number has 1 to 4 digits.
-unfoldable pub take_part : Part → ℕ → List ℕ → ℕ → Took
-take_part itself p w at = cond (eqb (byte_at w at) p) (On (at + 1)) (Off at)
+unfoldable pub take_part : Part → ℕ → List ℕ → ℕ → Result ℕ ℕ
+take_part itself p w at = cond (eqb (byte_at w at) p) (Ok (at + 1)) (Err at)
 take_part name p w at = take_run Named 16 w at
 take_part number p w at = take_run Digit 4 w at
 
 -- The sign p at `at` in the text w.
-abbrev pub take_sign : ℕ → List ℕ → ℕ → Took
+abbrev pub take_sign : ℕ → List ℕ → ℕ → Result ℕ ℕ
 take_sign p w at = take_part (part_of p) p w at
 
 -- Where x and y start, from 1, when the sign p is at `at`.
@@ -84,9 +84,9 @@ ending i w at x y =
     let e = at + span Blank w at (length w) in
     cond (eqb e (length w) || eqb (byte_at w e) (code ";")) (fit i true (e + 1) x y) (fit i false e x y)
 
-abbrev pub going : {X : Type 0} → Took → (ℕ → X) → (ℕ → X) → X
-going (On e) on off = on e
-going (Off e) on off = off e
+abbrev pub going : {X : Type 0} → Result ℕ ℕ → (ℕ → X) → (ℕ → X) → X
+going (Ok e) on off = on e
+going (Err e) on off = off e
 
 -- The signs ps of form i along the text w from `at` on.
 unfoldable pub follow : ℕ → List ℕ → List ℕ → ℕ → ℕ → ℕ → Fit

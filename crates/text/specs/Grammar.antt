@@ -20,13 +20,13 @@ pub data Form : List ℕ → List ℕ → Type 0 where
   numbered : {p : ℕ} {ps : List ℕ} (n : List ℕ) {u : List ℕ} → part_of p ≡ number → All Digit n → 1 ≤ length n → length n ≤ 4 → Form ps u → Form (p ∷ ps) (n ++ u)
 
 -- Instructions parted by `;`, with blanks around them.
-pub data Some : List ℕ → Type 0 where
-  last : (i : ℕ) (b u c : List ℕ) → i < 17 → All Blank b → Form (signs_of (suc i)) u → All Blank c → Some (b ++ (u ++ c))
-  more : (i : ℕ) (b u c : List ℕ) {v : List ℕ} → i < 17 → All Blank b → Form (signs_of (suc i)) u → All Blank c → Some v → Some (b ++ (u ++ (c ++ (code ";" ∷ v))))
+pub data Instructions : List ℕ → Type 0 where
+  last : (i : ℕ) (b u c : List ℕ) → i < 17 → All Blank b → Form (signs_of (suc i)) u → All Blank c → Instructions (b ++ (u ++ c))
+  more : (i : ℕ) (b u c : List ℕ) {v : List ℕ} → i < 17 → All Blank b → Form (signs_of (suc i)) u → All Blank c → Instructions v → Instructions (b ++ (u ++ (c ++ (code ";" ∷ v))))
 
 pub data Text : List ℕ → Type 0 where
   blanks : (b : List ℕ) → All Blank b → Text b
-  some : {v : List ℕ} → Some v → Text v
+  some : {v : List ℕ} → Instructions v → Text v
 
 -- The beginning of some text.
 abbrev pub Start : List ℕ → Type 0

@@ -2,11 +2,10 @@
 #![tactic(auto)]
 
 ghost use Rattle.std.specs.Prelude.{◌≡◌};
-ghost use Rattle.rules.specs.Run.{status_number};
-ghost use Rattle.told.specs.Numbers.{in32, refused_with, verdict_told, text_refusal_told, text_told, state_told, state_given, ran_told};
+ghost use Rattle.told.specs.Numbers.{in32, refused_with, verdict_told, text_told, state_told, state_given, ran_told};
 
-use refusals::{number_of, place_of};
-use rules::{Outcome, Ran, Stack, State, Status, Verdict};
+use refusals::{number_of, place_of, status_number};
+use rules::{Ran, Stack, State, Verdict};
 use text::{TextRefusal, TextVerdict};
 
 #[repr(C)]
@@ -37,29 +36,16 @@ pub struct QhRan {
     pub actions: u64,
 }
 
+// The greatest number of 32 bits stands for every greater one.
+#[tactic(auto, unfolding(crate::specs::Numbers::in32))]
 fn in_32(n: usize) -> u32
     ensures { result ≡ in32 n }
 {
-    if n <= 4294967295 {
-        n as u32
-    } else {
-        4294967295
-    }
-}
-
-pub fn status_of(status: Status) -> u32
-    ensures { result ≡ status_number status }
-{
-    match status {
-        Status::Ended => 1,
-        Status::NoReply => 2,
-        Status::LogFull => 3,
-        Status::StackFull => 4,
-        Status::Spent => 5,
-    }
+    u32::try_from(n).unwrap_or(u32::MAX)
 }
 
 // No count comes with a refusal.
+#[tactic(auto, unfolding(crate::specs::Numbers::refused_with))]
 fn refused(number: usize, place: usize) -> QhVerdict
     ensures { result ≡ refused_with number place }
 {
@@ -70,87 +56,86 @@ fn refused(number: usize, place: usize) -> QhVerdict
     }
 }
 
-pub fn tell_verdict(verdict: Verdict) -> QhVerdict
-    ensures { result ≡ verdict_told verdict }
-{
-    match verdict {
-        Verdict::Accepted(n) => QhVerdict {
-            refusal: 0,
-            place: 0,
-            count: in_32(n),
-        },
-        Verdict::Refused(r) => refused(number_of(r), place_of(r)),
+#[tactic(auto, unfolding(crate::specs::Numbers::verdict_told))]
+impl From<Verdict> for QhVerdict {
+    ghost from_gives = { λ verdict told. told ≡ verdict_told verdict };
+
+    fn from(verdict: Verdict) -> QhVerdict {
+        match verdict {
+            Ok(n) => QhVerdict {
+                refusal: 0,
+                place: 0,
+                count: in_32(n),
+            },
+            Err(r) => refused(number_of(r), place_of(r)),
+        }
     }
 }
 
-fn tell_text_refusal(refusal: TextRefusal) -> QhVerdict
-    ensures { result ≡ text_refusal_told refusal }
-{
-    match refusal {
-        TextRefusal::Text(p) => refused(12, p),
-        TextRefusal::Name(p) => refused(13, p),
-        TextRefusal::Earlier(r) => tell_verdict(Verdict::Refused(r)),
+#[tactic(auto, unfolding(crate::specs::Numbers::text_told, crate::specs::Numbers::text_refusal_told, crate::specs::Numbers::verdict_told, text::specs::Answers::told))]
+impl From<TextVerdict> for QhVerdict {
+    ghost from_gives = { λ verdict told. told ≡ text_told verdict };
+
+    fn from(verdict: TextVerdict) -> QhVerdict {
+        match verdict {
+            Ok(n) => QhVerdict::from(Verdict::Ok(n)),
+            Err(TextRefusal::Text(p)) => refused(12, p),
+            Err(TextRefusal::Name(p)) => refused(13, p),
+            Err(TextRefusal::Earlier(r)) => QhVerdict::from(Verdict::Err(r)),
+        }
     }
 }
 
-pub fn tell_text(verdict: TextVerdict) -> QhVerdict
-    ensures { result ≡ text_told verdict }
-{
-    match verdict {
-        TextVerdict::Done(n) => tell_verdict(Verdict::Accepted(n)),
-        TextVerdict::Refused(r) => tell_text_refusal(r),
+#[tactic(auto, unfolding(crate::specs::Numbers::state_told))]
+impl From<State> for QhState {
+    ghost from_gives = { λ state told. told ≡ state_told state };
+
+    fn from(state: State) -> QhState {
+        // By way of a variable: the prover follows no array from field to field.
+        let entries = state.stack.entries;
+        QhState {
+            at: in_32(state.at),
+            depth: in_32(state.stack.depth),
+            entries,
+        }
     }
 }
 
-pub fn tell_state(state: State) -> QhState
-    ensures { result ≡ state_told state }
-{
-    let stack = state.stack;
-    let entries = stack.entries;
-    QhState {
-        at: in_32(state.at),
-        depth: in_32(stack.depth),
-        entries,
+#[tactic(auto, unfolding(crate::specs::Numbers::state_given))]
+impl From<QhState> for State {
+    ghost from_gives = { λ given state. state ≡ state_given given };
+
+    fn from(given: QhState) -> State {
+        // By way of a variable, as above.
+        let entries = given.entries;
+        State {
+            // `usize` has no `From<u32>`, nor `u64` below one of `usize`.
+            at: given.at as usize,
+            stack: Stack {
+                entries,
+                depth: given.depth as usize,
+            },
+        }
     }
 }
 
-pub fn state_given(given: QhState) -> State
-    ensures { result ≡ state_given given }
-{
-    let entries = given.entries;
-    let stack = Stack {
-        entries,
-        depth: given.depth as usize,
-    };
-    State {
-        at: given.at as usize,
-        stack,
-    }
-}
+#[tactic(auto, unfolding(crate::specs::Numbers::ran_told, crate::specs::Numbers::refusal_told, crate::specs::Numbers::place_told, crate::specs::Numbers::status_told))]
+impl From<Ran> for QhRan {
+    ghost from_gives = { λ ran told. told ≡ ran_told ran };
 
-pub fn tell_ran(ran: Ran) -> QhRan
-    ensures { result ≡ ran_told ran }
-{
-    let state = tell_state(ran.state);
-    let outcome = ran.outcome;
-    match outcome {
-        Outcome::Stopped(w) => QhRan {
-            refusal: 0,
-            place: 0,
-            status: status_of(w),
-            state,
+    fn from(ran: Ran) -> QhRan {
+        let (refusal, place, status) = match ran.outcome {
+            Ok(w) => (0, 0, status_number(w)),
+            Err(r) => (in_32(number_of(r)), in_32(place_of(r)), 0),
+        };
+        QhRan {
+            refusal,
+            place,
+            status,
+            state: QhState::from(ran.state),
             steps: ran.steps,
             replies: ran.replies as u64,
             actions: ran.actions as u64,
-        },
-        Outcome::TurnedAway(r) => QhRan {
-            refusal: in_32(number_of(r)),
-            place: in_32(place_of(r)),
-            status: 0,
-            state,
-            steps: ran.steps,
-            replies: ran.replies as u64,
-            actions: ran.actions as u64,
-        },
+        }
     }
 }

@@ -8,82 +8,50 @@ mod notation;
 mod printing;
 mod public_calls;
 
-ghost use Rattle.std.specs.Prelude.{◌≤◌, ◌<◌, length, IfOk};
-
 use notation::expand;
-use records::{kind_at, x_at, y_at};
+use public_calls::{Call, find, judge, run, run_base_of};
+use records::record_at;
 use std::io;
 use std::io::Read;
 
-// So many bytes from a place on; none where there are not as many.
+// So many bytes from a place on, or as many as there are; all of them where they end before that place.
 fn part(s: &[u8], from: usize, n: usize) -> &[u8] {
-    if s.len() < from {
-        return s;
+    match s.get(from..) {
+        Some(rest) => &rest[..n.min(rest.len())],
+        None => s,
     }
-    let rest = &s[from..];
-    if rest.len() < n {
-        return rest;
-    }
-    &rest[..n]
 }
 
 // The first of the two records has in its kind what to do, in x how many records follow and in y how many replies; the second is the
 // replies, or has the numbers of a lookup in x and y.
-fn try_case(rt: &HostRuntime, case: &[u8]) -> io::Result<()> {
-    let what = kind_at(case, 1);
-    let records = part(case, 16, 8 * x_at(case, 1) as usize);
+fn try_case(rt: &impl Print, case: &[u8]) -> io::Result<()> {
+    let said = record_at(case, 1);
+    let records = part(case, 16, 8 * usize::from(said.x));
+    let replies = part(case, 8, usize::from(said.y));
     let mut file = [0u8; 4096];
     let n = expand(records, &mut file);
     let s = &file[..n];
-    let replies = part(case, 8, y_at(case, 1) as usize);
-    match what {
-        0..=4 => public_calls::judge(rt, what, records, s),
-        5 => public_calls::run(rt, s, replies),
-        6 => public_calls::run_base_of(rt, s, replies),
-        _ => public_calls::find(rt, what, records, s, x_at(case, 2), y_at(case, 2)),
+    match Call::from(said.kind) {
+        Call::Judge(judged) => judge(rt, judged, records, s),
+        Call::Run => run(rt, s, replies),
+        Call::RunBase => run_base_of(rt, s, replies),
+        Call::Find(sought) => find(rt, sought, records, s, record_at(case, 2)),
     }
 }
 
-// How many bytes the first of some cases has.
-fn size_of(cases: &[u8]) -> usize
-    ensures upper_bound { result ≤ length cases.now }
-    ensures result_nonzero { 0 < length cases.now → 0 < result }
-{
-    let size = 16 + 8 * x_at(cases, 1) as usize;
-    if cases.len() < size {
-        cases.len()
-    } else {
-        size
-    }
-}
-
-fn try_all(rt: &HostRuntime, cases: &[u8]) -> io::Result<()> {
-    let mut at = 0;
-    while at < cases.len() {
-        let size = size_of(&cases[at..]);
-        try_case(rt, &cases[at..])?;
-        at += size;
+// A case says how long it is, so that the cases are no chunks of one size.
+fn try_all(rt: &impl Print, cases: &[u8]) -> io::Result<()> {
+    let mut rest = cases;
+    while !rest.is_empty() {
+        try_case(rt, rest)?;
+        let size = 16 + 8 * usize::from(record_at(rest, 1).x);
+        rest = &rest[size.min(rest.len())..];
     }
     Ok(())
 }
 
-// Reads until the buffer is full or the input ends: so many bytes at its start.
-fn read_full(rt: &HostRuntime, buffer: &mut [u8]) -> io::Result<usize>
-    ensures { IfOk result (λ n. n ≤ length buffer.new) }
-{
-    let mut at = 0;
-    while at < buffer.len() {
-        let more = rt.stdin().read(&mut buffer[at..])?;
-        if more == 0 {
-            return Ok(at);
-        }
-        at += more;
-    }
-    Ok(at)
-}
-
 fn main(rt: HostRuntime) -> io::Result<()> {
     let mut input = [0u8; 65536];
-    let n = read_full(&rt, &mut input)?;
-    try_all(&rt, &input[..n])
+    let came = io::copy(&mut rt.stdin().take(65536), &mut &mut input[..])?;
+    try_all(&rt, part(&input, 0, came as usize))
 }

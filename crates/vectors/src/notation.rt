@@ -1,48 +1,43 @@
 // The records of a case.
 ghost use Rattle.std.specs.Prelude.{◌≡◌, ◌≤◌, length, take};
 
-use crate::printing::{named, record, word};
-use records::{kind_at, number, put_record, x_at, y_at};
+use crate::printing::print_record;
+use records::{number, put_record, record_at};
+use rules::Record;
 use std::io;
 
-// How often record i stands in a row: a case has that in bytes 6 and 7, where 0 is once.
-fn times_at(s: &[u8], i: usize) -> usize {
-    if i == 0 {
-        return 1;
+// How often a record stands in a row: a case has that in bytes 6 and 7, where 0 is once.
+fn times_of(record: &[u8]) -> usize {
+    match record {
+        [.., low, high] => usize::from(number(*low, *high)).max(1),
+        _ => 1,
     }
-    if s.len() / 8 < i {
-        return 1;
-    }
-    let at = 8 * (i - 1);
-    let times = number(s[at + 6], s[at + 7]);
-    if times == 0 { 1 } else { times as usize }
 }
 
-fn print_one(rt: &HostRuntime, s: &[u8], i: usize) -> io::Result<()> {
-    let times = times_at(s, i);
-    word(rt, b" ")?;
+fn print_one(rt: &impl Print, record: &[u8]) -> io::Result<()> {
+    let times = times_of(record);
+    print!(rt; " ")?;
     if times != 1 {
-        named(rt, b"", times)?;
-        word(rt, b" x ")?;
+        print!(rt; "{times} x ")?;
     }
-    record(rt, kind_at(s, i), x_at(s, i), y_at(s, i))?;
-    word(rt, b";")
+    print_record(rt, record_at(record, 1))?;
+    print!(rt; ";")
 }
 
-pub fn print_records(rt: &HostRuntime, s: &[u8]) -> io::Result<()> {
-    for i in 0..s.len() / 8 {
-        print_one(rt, s, i + 1)?;
+pub fn print_records(rt: &impl Print, s: &[u8]) -> io::Result<()> {
+    for record in s.chunks_exact(8) {
+        print_one(rt, record)?;
     }
     Ok(())
 }
 
 // A record so many times, where there is room; answers the bytes written.
-fn repeat(kind: u8, x: u16, y: u16, times: usize, out: &mut [u8]) -> usize
+fn repeat(record: Record, times: usize, out: &mut [u8]) -> usize
     ensures { result ≤ length out.new }
 {
     let mut at = 0;
-    for turn in 0..times {
-        at += put_record(&mut out[at..], kind, x, y);
+    for _ in 0..times {
+        at += put_record(&mut out[at..], record);
     }
     at
 }
@@ -53,15 +48,8 @@ pub fn expand(s: &[u8], out: &mut [u8]) -> usize
     ensures counted { result ≡ length (take result out.new) }
 {
     let mut at = 0;
-    for turn in 0..s.len() / 8 {
-        let i = turn + 1;
-        at += repeat(
-            kind_at(s, i),
-            x_at(s, i),
-            y_at(s, i),
-            times_at(s, i),
-            &mut out[at..],
-        );
+    for record in s.chunks_exact(8) {
+        at += repeat(record_at(record, 1), times_of(record), &mut out[at..]);
     }
     at
 }

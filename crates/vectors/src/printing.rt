@@ -1,29 +1,19 @@
-// What is printed, by way of a line that has room for each of these.
+// What is printed by way of a line, which has room for each of these.
 use crate::part;
-use rules::Verdict;
+use rules::{Record, Verdict};
+use show::{put_answer, put_written};
 use std::io;
 
-pub fn word(rt: &HostRuntime, text: &[u8]) -> io::Result<()> {
-    rt.write_all(text)
-}
-
-// A word, and a number behind it.
-pub fn named(rt: &HostRuntime, name: &[u8], n: usize) -> io::Result<()> {
-    word(rt, name)?;
-    rt.print(n)
-}
-
 // A record as the paper writes it.
-pub fn record(rt: &HostRuntime, kind: u8, x: u16, y: u16) -> io::Result<()> {
+pub fn print_record(rt: &impl Print, record: Record) -> io::Result<()> {
     let mut line = [0u8; 64];
-    let k = show::put_written(kind, x, y, &mut line);
-    word(rt, part(&line, 0, k))
+    let k = put_written(record, &mut line);
+    rt.write_all(part(&line, 0, k))
 }
 
 // What was answered, to the end of the line.
-pub fn answer_line(rt: &HostRuntime, verdict: Verdict) -> io::Result<()> {
+pub fn print_answer(rt: &impl Print, verdict: Verdict) -> io::Result<()> {
     let mut line = [0u8; 64];
-    let k = show::put_answer(verdict, &mut line);
-    word(rt, b": ")?;
-    word(rt, part(&line, 0, k))
+    let k = put_answer(verdict, &mut line);
+    rt.write_all(part(&line, 0, k))
 }

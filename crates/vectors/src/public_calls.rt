@@ -2,138 +2,180 @@
 use crate::answers::print_ran;
 use crate::notation::print_records;
 use crate::part;
-use crate::printing::{answer_line, named, word};
+use crate::printing::print_answer;
+use labels::{target, target2};
 use lower::convert;
 use partners::Sort;
-use rules::Verdict;
-use std::io;
+use rules::{Record, Verdict};
+use std::{fmt, io};
 use tables::{fill_headers, fill_stops, look};
 
-fn print_name(rt: &HostRuntime, what: u8) -> io::Result<()> {
-    match what {
-        0 => word(rt, b"check"),
-        1 => word(rt, b"convert"),
-        2 => word(rt, b"list"),
-        3 => word(rt, b"to relative"),
-        _ => word(rt, b"to absolute"),
+// What is asked of a case.
+#[derive(Clone, Copy)]
+pub enum Call {
+    Judge(Judged),
+    Run,
+    RunBase,
+    Find(Sought),
+}
+
+// The calls that answer a verdict.
+#[derive(Clone, Copy)]
+pub enum Judged {
+    Check,
+    Convert,
+    List,
+    ToRelative,
+    ToAbsolute,
+}
+
+// The lookups.
+#[derive(Clone, Copy)]
+pub enum Sought {
+    LoopEnd,
+    LoopHeader,
+    End,
+    ArmEnd,
+    Target,
+    SecondTarget,
+    Unnumbered,
+}
+
+impl From<u8> for Call {
+    fn from(number: u8) -> Call {
+        match number {
+            0 => Call::Judge(Judged::Check),
+            1 => Call::Judge(Judged::Convert),
+            2 => Call::Judge(Judged::List),
+            3 => Call::Judge(Judged::ToRelative),
+            4 => Call::Judge(Judged::ToAbsolute),
+            5 => Call::Run,
+            6 => Call::RunBase,
+            7 => Call::Find(Sought::LoopEnd),
+            8 => Call::Find(Sought::LoopHeader),
+            9 => Call::Find(Sought::End),
+            10 => Call::Find(Sought::ArmEnd),
+            11 => Call::Find(Sought::Target),
+            12 => Call::Find(Sought::SecondTarget),
+            _ => Call::Find(Sought::Unnumbered),
+        }
     }
 }
 
-fn answer(what: u8, s: &[u8], out: &mut [u8]) -> Verdict {
+impl fmt::Display for Judged {
+    fn fmt<W: fmt::Write>(&self, f: &mut fmt::Formatter<W>) -> fmt::Result {
+        f.write_str(match self {
+            Judged::Check => "check",
+            Judged::Convert => "convert",
+            Judged::List => "list",
+            Judged::ToRelative => "to relative",
+            Judged::ToAbsolute => "to absolute",
+        })
+    }
+}
+
+impl fmt::Display for Sought {
+    fn fmt<W: fmt::Write>(&self, f: &mut fmt::Formatter<W>) -> fmt::Result {
+        f.write_str(match self {
+            Sought::LoopEnd => "loop end",
+            Sought::LoopHeader => "loop header",
+            Sought::End => "end",
+            Sought::ArmEnd => "end of the first arm",
+            Sought::Target | Sought::SecondTarget | Sought::Unnumbered => "target",
+        })
+    }
+}
+
+fn answer(judged: Judged, s: &[u8], out: &mut [u8]) -> Verdict {
     let mut work = [0u8; 32768];
-    match what {
-        0 => shape::check_routine(s),
-        1 => convert(s, out, &mut work),
-        2 => listing::list(s, out),
-        3 => relative::to_relative(s, out),
-        _ => relative::to_absolute(s, out),
+    match judged {
+        Judged::Check => shape::check_routine(s),
+        Judged::Convert => convert(s, out, &mut work),
+        Judged::List => listing::list(s, out),
+        Judged::ToRelative => relative::to_relative(s, out),
+        Judged::ToAbsolute => relative::to_absolute(s, out),
     }
 }
 
-// How many bytes of the output are looked at: none of a check or a listing, nor of what is longer than a line.
-fn written(what: u8, n: usize) -> usize {
-    if n > 64 {
-        return 0;
-    }
-    match what {
-        0 => 0,
-        2 => 0,
-        _ => 8 * n,
-    }
+// The first n records of the output, of which nothing is looked at where they are longer than a line.
+fn written(out: &[u8], n: usize) -> &[u8] {
+    if n > 64 { &[] } else { part(out, 0, 8 * n) }
 }
 
-// A line with the first so many bytes of the output, where there are any.
-fn print_written(rt: &HostRuntime, out: &[u8], n: usize) -> io::Result<()> {
-    if n != 0 {
-        word(rt, b"   ")?;
-        print_records(rt, part(out, 0, n))?;
-        word(rt, b"\n")?;
+// A line with the records of the output, where there are any.
+fn print_written(rt: &impl Print, records: &[u8]) -> io::Result<()> {
+    if !records.is_empty() {
+        print!(rt; "   ")?;
+        print_records(rt, records)?;
+        println!(rt)?;
     }
     Ok(())
 }
 
-// What a check, a conversion, a listing or a translation answers, and what it wrote.
-pub fn judge(rt: &HostRuntime, what: u8, case: &[u8], s: &[u8]) -> io::Result<()> {
+// What a check, a conversion, a listing or a translation answers, and the records that it wrote.
+pub fn judge(rt: &impl Print, judged: Judged, case: &[u8], s: &[u8]) -> io::Result<()> {
     let mut out = [0u8; 73744];
-    let verdict = answer(what, s, &mut out);
-    print_name(rt, what)?;
+    let verdict = answer(judged, s, &mut out);
+    print!(rt; "{judged}")?;
     print_records(rt, case)?;
-    answer_line(rt, verdict)?;
-    if let Verdict::Accepted(n) = verdict {
-        print_written(rt, &out, written(what, n))?;
+    print!(rt; ": ")?;
+    print_answer(rt, verdict)?;
+    match (judged, verdict) {
+        (Judged::Convert | Judged::ToRelative | Judged::ToAbsolute, Ok(n)) => {
+            print_written(rt, written(&out, n))
+        }
+        _ => Ok(()),
     }
-    Ok(())
 }
 
 // A budget that no case uses up but one that never ends.
 const BUDGET: u64 = 1000000;
 
-pub fn run(rt: &HostRuntime, s: &[u8], replies: &[u8]) -> io::Result<()> {
+pub fn run(rt: &impl Print, s: &[u8], replies: &[u8]) -> io::Result<()> {
     let mut log = [0u8; 64];
     let ran = machine::run_routine(s, replies, &mut log, BUDGET);
-    word(rt, b"run")?;
+    print!(rt; "run")?;
     print_records(rt, s)?;
     print_ran(rt, replies, ran, &log)
 }
 
 // The same of the base that the routine becomes.
-pub fn run_base_of(rt: &HostRuntime, s: &[u8], replies: &[u8]) -> io::Result<()> {
+pub fn run_base_of(rt: &impl Print, s: &[u8], replies: &[u8]) -> io::Result<()> {
     let mut base = [0u8; 32768];
     let mut work = [0u8; 32768];
     let mut log = [0u8; 64];
-    let converted = convert(s, &mut base, &mut work);
-    if let Verdict::Accepted(n) = converted {
-        let ran = machine::run_base(part(&base, 0, written(1, n)), replies, &mut log, BUDGET);
-        word(rt, b"run the base of")?;
+    if let Ok(n) = convert(s, &mut base, &mut work) {
+        let ran = machine::run_base(written(&base, n), replies, &mut log, BUDGET);
+        print!(rt; "run the base of")?;
         print_records(rt, s)?;
         print_ran(rt, replies, ran, &log)?;
     }
     Ok(())
 }
 
-fn print_asked(rt: &HostRuntime, what: u8) -> io::Result<()> {
-    match what {
-        7 => word(rt, b" loop end of "),
-        8 => word(rt, b" loop header of "),
-        9 => word(rt, b" end of "),
-        10 => word(rt, b" end of the first arm of "),
-        _ => word(rt, b" target of "),
-    }
-}
-
-// The partner of record i, by the table that has it.
-fn partner(what: u8, s: &[u8], i: usize) -> usize {
+// What is found of the numbers in a record, by the table that has it or among the labels. One that finds nothing answers 0, and a call of
+// no number is looked up as an end.
+fn found(sought: Sought, s: &[u8], of: Record) -> usize {
     let mut t = [0u16; 513];
-    if what == 8 {
-        fill_headers(s, &mut t);
-        return look(&t, i) as usize;
+    match sought {
+        Sought::LoopEnd => fill_stops(Sort::Loop, s, &mut t),
+        Sought::LoopHeader => fill_headers(s, &mut t),
+        Sought::End | Sought::ArmEnd | Sought::Unnumbered => {
+            fill_stops(Sort::Conditional, s, &mut t)
+        }
+        Sought::Target => return target(s, of.x).unwrap_or(0),
+        Sought::SecondTarget => return target2(s, of.x, of.y).unwrap_or(0),
     }
-    let sort = if what == 7 {
-        Sort::Loop
-    } else {
-        Sort::Conditional
-    };
-    fill_stops(sort, s, &mut t);
-    look(&t, i) as usize
+    usize::from(look(&t, usize::from(of.x)))
 }
 
-fn found(what: u8, s: &[u8], x: u16, y: u16) -> usize {
-    match what {
-        11 => labels::place_of(labels::target(s, x)),
-        12 => labels::place_of(labels::target2(s, x, y)),
-        _ => partner(what, s, x as usize),
-    }
-}
-
-// A lookup of numbers x and y, of which 0 is not printed. One that finds nothing answers 0.
-pub fn find(rt: &HostRuntime, what: u8, case: &[u8], s: &[u8], x: u16, y: u16) -> io::Result<()> {
-    word(rt, b"in")?;
+// A lookup of the numbers x and y in a record, of which 0 is not printed as y.
+pub fn find(rt: &impl Print, sought: Sought, case: &[u8], s: &[u8], of: Record) -> io::Result<()> {
+    print!(rt; "in")?;
     print_records(rt, case)?;
-    print_asked(rt, what)?;
-    named(rt, b"", x as usize)?;
-    if y != 0 {
-        named(rt, b" ", y as usize)?;
+    print!(rt; " {sought} of {}", of.x)?;
+    if of.y != 0 {
+        print!(rt; " {}", of.y)?;
     }
-    named(rt, b": ", found(what, s, x, y))?;
-    word(rt, b"\n")
+    println!(rt; ": {}", found(sought, s, of))
 }

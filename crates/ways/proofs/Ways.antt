@@ -1,6 +1,5 @@
 -- The table of places.
---     arm_at, end-at, loop_at, header_at     what the tables of partners have for a record, by its kind
---     plain_more     one record more that is no bracket
+--     goto_place .. header_place     the place of a record, by its kind as it was read
 --     same_below, Put, put_none, put_one, put_all     the table filled entry by entry: at the start, a turn, at the end
 --     ways-long, ways_are, way-found     the whole table, and what it then has
 use mathlib.Core.Path.{◌≡◌, refl, sym, ap, ◌∙◌}
@@ -14,46 +13,81 @@ use mathlib.Core.List.{List}
 use lib.ListN.{length, get_or, set, length-set}
 use lib.Seq.{get_or-set_same, get_or-set_other, ext_get_or}
 use lib.Dec.{eqb, leb, ltb}
-use borrow.Author.Tests.{eqb-true, eqb-false, leb-true, ltb-true, ltb-false, le-leb, lt-leb, lt-ltb, le-ltb}
-use Rattle.rules.specs.Record.{count}
-use Rattle.rules.specs.Instruction.{conditional, loop, ops}
-use Rattle.rules.specs.Partners.{end_of, arm_of, header_of}
+use borrow.Author.Tests.{eqb-true, eqb-false, leb-true, leb-false, ltb-true, ltb-false, le-leb, lt-leb, lt-ltb, le-ltb}
+use Rattle.rules.specs.Record.{Rec, count}
+use Rattle.rules.specs.Numbers.{or_zero, past}
+use Rattle.rules.specs.Instruction.{ops}
+use Rattle.rules.specs.Labels.{target, target2}
 use Rattle.laws.proofs.Instructions.{tabulate}
 use Rattle.records.specs.Reading.{rec_at}
 use Rattle.tables.proofs.Filling.{tabulate_length, tabulate_at}
 use Rattle.tables.proofs.Partners.{arm_found, end-found, loop_found, header-found}
+use Rattle.ways.specs.Places.{places, place_for, place_at}
 use Rattle.ways.specs.Ways.{way_of, entry_of, entered, ways, Plain, Partnered}
-use Rattle.ways.proofs.Places.{from_one, in_file}
+use Rattle.ways.proofs.Places.{from_one, in_file, place-header, place_loop, place_below, place_above}
 
 -- ## What the tables of partners have, where the record has a partner
 
-module _ {s stops ends headers : List ℕ} (i : ℕ) (q : Plain s i ⊎ Partnered s stops ends headers) {kind : ℕ} (e : kind ≡ (rec_at s i).kind) where
-  partnered : 8 ≤ kind → kind ≤ 14 → Partnered s stops ends headers
-  partnered l h = ⊎_elim (λ p. absurd (omega (arith, e, p (omega (arith, e))))) (λ p. p) q
+-- Record i as it was read.
+module _ (s : List ℕ) (i : ℕ) {r : Rec} (e : r ≡ rec_at s i) where
+  same_kind : r.kind ≡ (rec_at s i).kind
+  same_kind = ap (λ (x : Rec). x.kind) e
 
-  named : 8 ≤ kind → (1 ≤ i) × (i ≤ count s)
-  named l = let k : 0 < (rec_at s i).kind = omega (arith, e) in (from_one s i k, in_file s i k)
+  pub goto_place : r.kind ≡ 6 → or_zero (target (ops s) r.x) ≡ place_at s i
+  unfolding place_at place_for places
+  goto_place h = rw (← e, h)
 
-  pub arm_at : 8 ≤ kind → kind ≤ 9 → get_or stops i 0 ≡ arm_of (ops s) i
-  arm_at l h = let n = named l in arm_found s i n.0 n.1 e (partnered l (omega arith)).stopping l h
+  pub goto2_place : r.kind ≡ 7 → or_zero (target2 (ops s) r.x r.y) ≡ place_at s i
+  unfolding place_at place_for places
+  goto2_place h = rw (← e, h)
 
-  pub end-at : kind ≡ 10 → get_or stops i 0 ≡ end_of conditional (ops s) i
-  end-at h = let n = named (omega arith) in end-found s i n.0 n.1 e (partnered (omega arith) (omega arith)).stopping h
+  pub below_place : r.kind < 6 → 0 ≡ place_at s i
+  unfolding place_at
+  below_place h = rw (← e) (sym (place_below (ops s) i r.x r.y r.kind h))
 
-  pub loop_at : 8 ≤ kind → kind ≤ 14 → get_or ends i 0 ≡ end_of loop (ops s) i
-  loop_at l h = let n = named l in loop_found s i n.0 n.1 (partnered l h).ending
+  pub end_place : r.kind ≡ 11 → 0 ≡ place_at s i
+  unfolding place_at place_for places
+  end_place h = rw (← e, h)
 
-  pub header_at : kind ≡ 14 → get_or headers i 0 ≡ header_of loop (ops s) i
-  header_at h = let n = named (omega arith) in header-found s i n.0 n.1 e (partnered (omega arith) (omega arith)).opening h
+  pub above_place : 14 < r.kind → 0 ≡ place_at s i
+  unfolding place_at
+  above_place h = rw (← e) (sym (place_above (ops s) i r.x r.y r.kind h))
 
--- One record more that is none of these, by the kind that was read of it.
-pub plain_more : (s : List ℕ) (from k : ℕ) {kind : ℕ} → kind ≡ (rec_at s (k + 1)).kind → (8 ≤ kind → 14 < kind) → ((j : ℕ) → from ≤ j → j < k → Plain s (suc j))
-    → (j : ℕ) → from ≤ j → j < k + 1 → Plain s (suc j)
-plain_more s from k e p h j a b = by (eqb j k) refl
-  where
-    by : (x : Bool) → eqb j k ≡ x → Plain s (suc j)
-    by true q = let z : k + 1 ≡ suc j = omega (arith, eqb-true j k q) in rw (← z, ← e) p
-    by false q = h j a (omega (arith, eqb-false j k q))
+  module _ {stops ends headers : List ℕ} (q : Plain s i ⊎ Partnered s stops ends headers) where
+    partnered : 8 ≤ r.kind → r.kind ≤ 14 → Partnered s stops ends headers
+    partnered l h = ⊎_elim (λ p. absurd (omega (arith, same_kind, p (omega (arith, same_kind))))) (λ p. p) q
+
+    named : 8 ≤ r.kind → (1 ≤ i) × (i ≤ count s)
+    named l = let k : 0 < (rec_at s i).kind = omega (arith, same_kind) in (from_one s i k, in_file s i k)
+
+    at-10 : r.kind ≡ 10 → past (get_or stops i 0) ≡ place_for (ops s) i r.kind r.x r.y
+    unfolding place_for places
+    at-10 z = let n = named (omega arith) in rw z (ap past (end-found s i n.0 n.1 same_kind (partnered (omega arith) (omega arith)).stopping z))
+
+    pub stop_place : 8 ≤ r.kind → r.kind ≤ 10 → past (get_or stops i 0) ≡ place_at s i
+    unfolding place_at
+    stop_place l h = rw (← e) (by (leb r.kind 9) refl)
+      where
+        by : (b : Bool) → leb r.kind 9 ≡ b → past (get_or stops i 0) ≡ place_for (ops s) i r.kind r.x r.y
+        by true p =
+            let n = named l in
+            let m = leb-true r.kind 9 p in
+            ap past (arm_found s i n.0 n.1 same_kind (partnered l (omega arith)).stopping l m) ∙ sym (place-header (ops s) i r.x r.y r.kind l m)
+        by false p = at-10 (omega (arith, leb-false r.kind 9 p))
+
+    pub loop_place : 12 ≤ r.kind → r.kind ≤ 13 → past (get_or ends i 0) ≡ place_at s i
+    unfolding place_at
+    loop_place l h =
+        let n = named (omega arith) in
+        rw (← e) (ap past (loop_found s i n.0 n.1 (partnered (omega arith) (omega arith)).ending) ∙ sym (place_loop (ops s) i r.x r.y r.kind l h))
+
+    pub header_place : r.kind ≡ 14 → get_or headers i 0 ≡ place_at s i
+    unfolding place_at place_for places
+    header_place h =
+        let n = named (omega arith) in
+        rw (← e, h) (header-found s i n.0 n.1 same_kind (partnered (omega arith) (omega arith)).opening h)
+
+pub ruleset nowhere = (below_place, end_place, above_place)
 
 -- ## Entry by entry
 

@@ -8,9 +8,13 @@ use Rattle.records.specs.Reading.{rec_at}
 use Rattle.tables.specs.Passing.{Stopping, Opening}
 use Rattle.ways.specs.Places.{place_at}
 
--- The place of record i. A move to any number outside 1..n ends, so beyond 512 it may be 0.
-unfoldable pub way_of : List ℕ → ℕ → ℕ
-way_of s i = cond (leb (place_at s i) 512) (place_at s i) 0
+-- A move to any number outside 1..n ends, so a place beyond 512 may be 0.
+unfoldable pub near : ℕ → ℕ
+near k = cond (leb k 512) k 0
+
+-- The place of record i.
+abbrev pub way_of : List ℕ → ℕ → ℕ
+way_of s i = near (place_at s i)
 
 -- Of the records behind the first `from`, up to number `to`, the table has their places; its other entries are as they were. A file
 -- longer than a routine may be is not looked at.

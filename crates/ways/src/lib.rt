@@ -4,71 +4,64 @@
 ghost use Rattle.std.specs.Prelude.{◌≡◌, false, ◌⊎◌, ℕ, suc, ◌≤◌, ◌<◌};
 ghost use Rattle.rules.specs.Numbers.{past};
 ghost use Rattle.ways.specs.Places.{place_at};
-ghost use Rattle.ways.specs.Ways.{way_of, entered, ways, Plain, Partnered};
+ghost use Rattle.ways.specs.Ways.{near, entered, ways, Plain, Partnered};
 
-use labels::{place_of, target, target2};
+use labels::{target, target2};
 use partners::Sort;
-use records::{kind_at, x_at, y_at};
+use records::{kind_at, record_at};
+use rules::Record;
 use tables::{fill_headers, fill_stops, look};
 
+// Tables of partners: the stops of conditionals and of loops, and the headers of loop ends. No ghost field says that they are right: where
+// no record has a partner they are empty.
+#[derive(Clone, Copy)]
+struct Partners<'a> {
+    stops: &'a [u16],
+    ends: &'a [u16],
+    headers: &'a [u16],
+}
+
 // The number after k, where k names a record.
+#[tactic(auto, unfolding(rules::specs::Numbers::past, rules::specs::Numbers::given))]
 fn past_record(k: u16) -> usize
     ensures { result ≡ past k }
 {
-    if k == 0 { 0 } else { k as usize + 1 }
+    if k == 0 { 0 } else { usize::from(k) + 1 }
 }
 
 // A goto to its target, or 0; a header past its first arm or loop end; a separator past its end; a loop end to its header. 0 for
 // any other record. The tables have the partners, where the record has one.
-fn place(s: &[u8], i: usize, stops: &[u16], ends: &[u16], headers: &[u16]) -> usize
-    requires { Plain s.now i ⊎ Partnered s.now stops.now ends.now headers.now }
+#[tactic(auto, using(crate::proofs::Ways::nowhere))]
+fn place(s: &[u8], i: usize, partners: Partners) -> usize
+    requires { Plain s.now i ⊎ Partnered s.now partners.stops.now partners.ends.now partners.headers.now }
     ensures { result ≡ place_at s.now i }
 {
-    let kind = kind_at(s, i);
+    let Record { kind, x, y } = record_at(s, i);
     match kind {
-        6 => place_of(target(s, x_at(s, i))),
-        7 => place_of(target2(s, x_at(s, i), y_at(s, i))),
-        8..=9 => past_record(look(stops, i)),
-        10 => past_record(look(stops, i)),
-        11 => 0,
-        12..=13 => past_record(look(ends, i)),
-        14 => look(headers, i) as usize,
+        6 => target(s, x).unwrap_or(0),
+        7 => target2(s, x, y).unwrap_or(0),
+        8 | 9 | 10 => past_record(look(partners.stops, i)),
+        12 | 13 => past_record(look(partners.ends, i)),
+        14 => usize::from(look(partners.headers, i)),
         _ => 0,
     }
 }
 
-// The place of record i in 16 bits.
-fn way(s: &[u8], i: usize, stops: &[u16], ends: &[u16], headers: &[u16]) -> u16
-    requires { Plain s.now i ⊎ Partnered s.now stops.now ends.now headers.now }
-    ensures { result ≡ way_of s.now i }
+// A place in 16 bits. Beyond 512 it is 0: a move to any number outside 1..n ends. The test bounds the cast; `try_from` would ask again.
+#[tactic(auto, unfolding(crate::specs::Ways::near))]
+fn near(place: usize) -> u16
+    ensures { result ≡ near place }
 {
-    let k = place(s, i, stops, ends, headers);
-    if k <= 512 {
-        return k as u16;
-    }
-    0
+    if place <= 512 { place as u16 } else { 0 }
 }
 
 // Puts the places of the records behind the first `from`, up to number `to`, into the table.
-fn put_ways(
-    s: &[u8],
-    from: usize,
-    to: usize,
-    stops: &[u16],
-    ends: &[u16],
-    headers: &[u16],
-    t: &mut [u16],
-)
-    requires { (k : ℕ) → from ≤ k → k < to → Plain s.now (suc k) ⊎ Partnered s.now stops.now ends.now headers.now }
+fn put_ways(s: &[u8], from: usize, to: usize, partners: Partners, t: &mut [u16])
+    requires { (k : ℕ) → from ≤ k → k < to → Plain s.now (suc k) ⊎ Partnered s.now partners.stops.now partners.ends.now partners.headers.now }
     ensures { t.new ≡ entered s.now from to t.old }
 {
-    let mut k = from;
-    while k < to {
-        if t.len() <= k {
-            return;
-        }
-        t[k] = way(s, k + 1, stops, ends, headers);
-        k += 1;
+    for k in from..to.min(t.len()) {
+        t[k] = near(place(s, k + 1, partners));
     }
 }
 
@@ -76,14 +69,9 @@ fn put_ways(
 fn any_bracket(s: &[u8], from: usize, to: usize) -> bool
     ensures { result ≡ false → (k : ℕ) → from ≤ k → k < to → Plain s.now (suc k) }
 {
-    let mut k = from;
-    while k < to {
-        k += 1;
-        let kind = kind_at(s, k);
-        if 8 <= kind {
-            if kind <= 14 {
-                return true;
-            }
+    for k in from..to {
+        if matches!(kind_at(s, k + 1), 8..=14) {
+            return true;
         }
     }
     false
@@ -97,16 +85,25 @@ pub fn fill_ways(s: &[u8], from: usize, to: usize, t: &mut [u16])
     if 512 < s.len() / 8 {
         return;
     }
-    if any_bracket(s, from, to) {
-        let mut stops = [0u16; 513];
-        fill_stops(Sort::Conditional, s, &mut stops);
-        let mut ends = [0u16; 513];
-        fill_stops(Sort::Loop, s, &mut ends);
-        let mut headers = [0u16; 513];
-        fill_headers(s, &mut headers);
-        put_ways(s, from, to, &stops, &ends, &headers, t);
+    if !any_bracket(s, from, to) {
+        let none = Partners {
+            stops: &[],
+            ends: &[],
+            headers: &[],
+        };
+        put_ways(s, from, to, none, t);
         return;
     }
-    let none = [0u16; 1];
-    put_ways(s, from, to, &none, &none, &none, t);
+    let mut stops = [0; 513];
+    fill_stops(Sort::Conditional, s, &mut stops);
+    let mut ends = [0; 513];
+    fill_stops(Sort::Loop, s, &mut ends);
+    let mut headers = [0; 513];
+    fill_headers(s, &mut headers);
+    let all = Partners {
+        stops: &stops,
+        ends: &ends,
+        headers: &headers,
+    };
+    put_ways(s, from, to, all, t);
 }

@@ -3,13 +3,14 @@
 #![tactic(auto)]
 
 ghost use Rattle.print.specs.Printing.{Printed};
-ghost use Rattle.rules.specs.Record.{rec};
 ghost use Rattle.rules.specs.Instruction.{act_of};
 ghost use Rattle.words.specs.Text.{action, sign, instruction};
 
 use print::{put_form, put_word};
+use rules::Record;
 
 // An outside action by its number, or one of the counter stack's own.
+#[tactic(auto, unfolding(crate::specs::Text::action, rules::specs::Instruction::act_of, print::specs::Text::filled, print::specs::Text::filled_sign))]
 fn put_action(x: usize, y: usize, text: &mut [u8]) -> usize
     ensures { Printed (action (act_of x y)) text.old text.new result }
 {
@@ -22,6 +23,7 @@ fn put_action(x: usize, y: usize, text: &mut [u8]) -> usize
 }
 
 // The sign of kind 2 or 3.
+#[tactic(auto, unfolding(crate::specs::Text::sign))]
 fn put_sign(kind: u8, text: &mut [u8]) -> usize
     ensures { Printed (sign kind) text.old text.new result }
 {
@@ -33,12 +35,14 @@ fn put_sign(kind: u8, text: &mut [u8]) -> usize
 }
 
 // The instruction of a base record: ##k, or an action with its sign in front.
-pub fn put_instruction(kind: u8, x: u16, y: u16, text: &mut [u8]) -> usize
-    ensures { Printed (instruction (rec kind x y)) text.old text.new result }
+#[tactic(auto, unfolding(crate::specs::Text::instruction, print::specs::Text::filled, print::specs::Text::filled_sign))]
+pub fn put_instruction(r: Record, text: &mut [u8]) -> usize
+    ensures { Printed (instruction r) text.old text.new result }
 {
-    if kind == 4 {
-        return put_form(b"##x", x as usize, 0, text);
+    let x = usize::from(r.x);
+    if r.kind == 4 {
+        return put_form(b"##x", x, 0, text);
     }
-    let at = put_sign(kind, text);
-    at + put_action(x as usize, y as usize, &mut text[at..])
+    let at = put_sign(r.kind, text);
+    at + put_action(x, usize::from(r.y), &mut text[at..])
 }

@@ -2,7 +2,7 @@
 use mathlib.Core.Path.{◌≡◌}
 use Prim.Native.Nat.{◌≤◌, ◌<◌}
 use native.Mathlib.Omega.{arith}
-use Rattle.rules.specs.Words.{ℕ, suc, true, none, List, length}
+use Rattle.rules.specs.Words.{ℕ, suc, true, None, List, length}
 use Rattle.rules.specs.declared.Notation.TheVariants.{Routine}
 use Rattle.rules.specs.Record.{Rec, rec, bytes_of, count}
 use Rattle.rules.specs.Table.{row_of}
@@ -50,6 +50,6 @@ pub all_small : {es : List (List ℕ)} {m : ℕ} {rs : List Rec} → length es �
 all_small l (no_more m) = tt
 all_small l (one_more m m' r rs g gs) = ((right_proper l g).small, all_small l gs)
 
-pub no-refusal : {es : List (List ℕ)} {m : ℕ} {rs : List Rec} → length es ≤ 999 → length rs ≤ 512 → Rights es m rs → first (record_checks Routine (bytes_of rs)) ≡ none
+pub no-refusal : {es : List (List ℕ)} {m : ℕ} {rs : List Rec} → length es ≤ 999 → length rs ≤ 512 → Rights es m rs → first (record_checks Routine (bytes_of rs)) ≡ None
 unfolding check_records most
 no-refusal {rs = rs} l n g = accepted-none (record_checks Routine (bytes_of rs)) (count (bytes_of rs)) (accepted Routine rs n (all_proper l g))

@@ -5,7 +5,7 @@ use native.Mathlib.Omega.{arith}
 use lib.Dec.{T}
 use borrow.Author.Tests.{eqb-true, le-leb, leb-true, not-false, ltb-true, ltb-false}
 use Rattle.std.specs.Prelude.{◌&&◌, ◌||◌, ◌∷◌}
-use Rattle.rules.specs.Words.{ℕ, zero, suc, Bool, true, false, cond, Option, none, some, List, [], drop, eqb, leb, ltb}
+use Rattle.rules.specs.Words.{ℕ, zero, suc, Bool, true, false, cond, Option, None, Some, List, [], drop, eqb, leb, ltb}
 use Rattle.rules.specs.declared.Row.{Row}
 use Rattle.rules.specs.declared.Refusal.{Refusal}
 use Rattle.rules.specs.declared.Refusal.TheVariants.{Kind, Field}
@@ -36,15 +36,15 @@ pub record Ranged (r : Rec) : Type 0 where
   pub y_most : r.y ≤ 9999
 
 abbrev bounded : Option Row → Bool
-bounded none = true
-bounded (some row) = leb row.xmax 9999 && leb row.ymax 9999
+bounded None = true
+bounded (Some row) = leb row.xmax 9999 && leb row.ymax 9999
 
 all_bounded : (j : ℕ) → j < 16 → T (bounded (row_of Routine (suc j)))
 unfolding row_of at rows
 all_bounded j h = upto 16 (λ i. bounded (row_of Routine (suc i))) j tt h
 
 -- The four bounds of a row, and the fields within them.
-in_row_is : (row : Row) (r : Rec) → in_row (some row) r ≡ true → (row.xmin ≤ r.x) × (r.x ≤ row.xmax) × (row.ymin ≤ r.y) × (r.y ≤ row.ymax)
+in_row_is : (row : Row) (r : Rec) → in_row (Some row) r ≡ true → (row.xmin ≤ r.x) × (r.x ≤ row.xmax) × (row.ymin ≤ r.y) × (r.y ≤ row.ymax)
 unfolding in_row
 in_row_is row r h =
     let h₃ = and_left (leb row.xmin r.x && leb r.x row.xmax && leb row.ymin r.y) _ h in
@@ -55,26 +55,26 @@ in_row_is row r h =
       leb-true r.y row.ymax (and_right (leb row.xmin r.x && leb r.x row.xmax && leb row.ymin r.y) _ h),
     )
 
-in_row_if : (row : Row) (r : Rec) → row.xmin ≤ r.x → r.x ≤ row.xmax → row.ymin ≤ r.y → r.y ≤ row.ymax → in_row (some row) r ≡ true
+in_row_if : (row : Row) (r : Rec) → row.xmin ≤ r.x → r.x ≤ row.xmax → row.ymin ≤ r.y → r.y ≤ row.ymax → in_row (Some row) r ≡ true
 unfolding in_row
 in_row_if row r h₁ h₂ h₃ h₄ = rw (le-leb row.xmin r.x h₁, le-leb r.x row.xmax h₂, le-leb row.ymin r.y h₃, le-leb r.y row.ymax h₄)
 
-no-row_is : (r : Rec) → in_row none r ≡ true → ⊥
+no-row_is : (r : Rec) → in_row None r ≡ true → ⊥
 unfolding in_row
 no-row_is r h = never (sym h)
 
 in_bounds : (o : Option Row) (r : Rec) → T (bounded o) → in_row o r ≡ true → (r.x ≤ 9999) × (r.y ≤ 9999)
-in_bounds none r b h = absurd (no-row_is r h)
-in_bounds (some row) r b h =
+in_bounds None r b h = absurd (no-row_is r h)
+in_bounds (Some row) r b h =
     let g = in_row_is row r h in
     let u = T_le row.xmax 9999 (left (leb row.xmax 9999) (leb row.ymax 9999) b) in
     let v = T_le row.ymax 9999 (right (leb row.xmax 9999) (leb row.ymax 9999) b) in
     (omega (arith, g.1), omega (arith, g.3))
 
-no_row : (k : ℕ) (r : Rec) → row_of Routine k ≡ none → in_row (row_of Routine k) r ≡ true → ⊥
+no_row : (k : ℕ) (r : Rec) → row_of Routine k ≡ None → in_row (row_of Routine k) r ≡ true → ⊥
 no_row k r e h = no-row_is r (rw e at h)
 
-unlisted : (k : ℕ) → 16 < k → row_of Routine k ≡ none
+unlisted : (k : ℕ) → 16 < k → row_of Routine k ≡ None
 unfolding row_of rows
 unlisted k h = at_none rows k h
 
@@ -98,17 +98,17 @@ fields_in r h = in_table r.kind r refl (or-false (in_row (row_of Routine r.kind)
 
 -- ## No refusal 3 or 4
 
-none_before : (c d : Option Refusal) → or_else c d ≡ none → c ≡ none
+none_before : (c d : Option Refusal) → or_else c d ≡ None → c ≡ None
 unfolding or_else
-none_before none d e = refl
-none_before (some r) d e = e
+none_before None d e = refl
+none_before (Some r) d e = e
 
-none_behind : (c d : Option Refusal) → or_else c d ≡ none → d ≡ none
+none_behind : (c d : Option Refusal) → or_else c d ≡ None → d ≡ None
 unfolding or_else
-none_behind none d e = e
-none_behind (some r) d e = absurd (let z : ◌≡◌ {A = ℕ} 0 1 = cc in omega arith)
+none_behind None d e = e
+none_behind (Some r) d e = absurd (let z : ◌≡◌ {A = ℕ} 0 1 = cc in omega arith)
 
-pub faultless : (i n : ℕ) (f : List ℕ) → fault_from Routine i n f ≡ none → All Ranged (records_of n f)
+pub faultless : (i n : ℕ) (f : List ℕ) → fault_from Routine i n f ≡ None → All Ranged (records_of n f)
 unfolding fault_from fault
 faultless i zero f e = tt
 faultless i (suc n) f e = (
@@ -120,11 +120,11 @@ faultless i (suc n) f e = (
 
 -- A row with x from u to v and y from p to q.
 abbrev ranges : ℕ → ℕ → ℕ → ℕ → Option Row → Bool
-ranges u v p q none = false
-ranges u v p q (some row) = eqb row.xmin u && (eqb row.xmax v && (eqb row.ymin p && eqb row.ymax q))
+ranges u v p q None = false
+ranges u v p q (Some row) = eqb row.xmin u && (eqb row.xmax v && (eqb row.ymin p && eqb row.ymax q))
 
 module _ (u v p q : ℕ) where
-  bounds : (row : Row) → T (ranges u v p q (some row)) → (row.xmin ≡ u) × (row.xmax ≡ v) × (row.ymin ≡ p) × (row.ymax ≡ q)
+  bounds : (row : Row) → T (ranges u v p q (Some row)) → (row.xmin ≡ u) × (row.xmax ≡ v) × (row.ymin ≡ p) × (row.ymax ≡ q)
   bounds row h =
       let k₁ = right (eqb row.xmin u) _ h in
       let k₂ = right (eqb row.xmax v) _ k₁ in (
@@ -135,16 +135,16 @@ module _ (u v p q : ℕ) where
       )
 
   pub inside : (o : Option Row) (r : Rec) → T (ranges u v p q o) → in_row o r ≡ true → (u ≤ r.x) × (r.x ≤ v) × (p ≤ r.y) × (r.y ≤ q)
-  inside none r h e = absurd h
-  inside (some row) r h e =
+  inside None r h e = absurd h
+  inside (Some row) r h e =
       let b = bounds row h in
       let g = in_row_is row r e in
       (omega (arith, b.0, g.0), omega (arith, b.1, g.1), omega (arith, b.2, g.2), omega (arith, b.3, g.3))
 
   pub covered : (o : Option Row) (r : Rec) → T (ranges u v p q o) → u ≤ r.x → r.x ≤ v → p ≤ r.y → r.y ≤ q → (listed o ≡ true) × (in_row o r ≡ true)
   unfolding listed
-  covered none r h x₁ x₂ y₁ y₂ = absurd h
-  covered (some row) r h x₁ x₂ y₁ y₂ =
+  covered None r h x₁ x₂ y₁ y₂ = absurd h
+  covered (Some row) r h x₁ x₂ y₁ y₂ =
       let b = bounds row h in
       (refl, in_row_if row r (omega (arith, b.0)) (omega (arith, b.1)) (omega (arith, b.2)) (omega (arith, b.3)))
 

@@ -3,8 +3,8 @@ use mathlib.Core.Path.{◌≡◌, refl, sym, ap, ◌∙◌}
 use Prim.Native.Nat.{◌≤◌}
 use native.Mathlib.Omega.{arith}
 use borrow.Author.Tests.{le-ltb, ltb-false}
-use Rattle.std.specs.Prelude.{◌*◌, ◌/◌, ◌%◌}
-use Rattle.rules.specs.Words.{ℕ, zero, suc, false, not, none, List, length, drop, eqb, ltb}
+use Rattle.std.specs.Prelude.{◌*◌, ◌/◌, ◌%◌, Ok, Err}
+use Rattle.rules.specs.Words.{ℕ, zero, suc, false, not, None, List, length, drop, eqb, ltb}
 use Rattle.rules.specs.declared.Notation.TheVariants.{Routine}
 use Rattle.rules.specs.declared.Refusal.TheVariants.{Long, Room}
 use Rattle.rules.specs.Record.{Rec, bytes_of, records}
@@ -13,7 +13,6 @@ use Rattle.rules.specs.Checks.{most, record_checks}
 use Rattle.rules.specs.Answers.{short}
 use Rattle.laws.proofs.Records.{records_back}
 use Rattle.text.specs.declared.TextRefusal.TheVariants.{Name, Earlier}
-use Rattle.text.specs.declared.TextVerdict.TheVariants.{Done, Refused}
 use Rattle.text.specs.Names.{entries_of, entries, list_fault}
 use Rattle.text.specs.Reading.{Reading, reads, refused, read_text}
 use Rattle.text.specs.Writing.{text_of, nameless}
@@ -50,23 +49,23 @@ record Read (w l : List ℕ) (n : ℕ) : Type 0 where
   few : length rs ≤ 512
   counted : n ≡ length rs
 
-was_fit : (w l out : List ℕ) (n : ℕ) (r : Reading) → read_text w (entries l) ≡ r → list_fault l ≡ false → fits r out ≡ Done n → Read w l n
+was_fit : (w l out : List ℕ) (n : ℕ) (r : Reading) → read_text w (entries l) ≡ r → list_fault l ≡ false → fits r out ≡ Ok n → Read w l n
 unfolding fits most
 was_fit w l out n (refused r) e h d = absurd (let z : ◌≡◌ {A = ℕ} 0 1 = cc in omega arith)
 was_fit w l out n (reads rs) e h d =
     by_test (ltb 512 (length rs))
-    (λ t. absurd (let y : Refused (Earlier Long) ≡ Done n = rw t at d in let z : ◌≡◌ {A = ℕ} 0 1 = cc in omega arith))
+    (λ t. absurd (let y : Err (Earlier Long) ≡ Ok n = rw t at d in let z : ◌≡◌ {A = ℕ} 0 1 = cc in omega arith))
     (λ t. by_test (short (length rs) out)
-    (λ u. absurd (let y : Refused (Earlier Room) ≡ Done n = rw (t, u) at d in let z : ◌≡◌ {A = ℕ} 0 1 = cc in omega arith))
-    (λ u. let y : Done (length rs) ≡ Done n = rw (t, u) at d in
+    (λ u. absurd (let y : Err (Earlier Room) ≡ Ok n = rw (t, u) at d in let z : ◌≡◌ {A = ℕ} 0 1 = cc in omega arith))
+    (λ u. let y : Ok (length rs) ≡ Ok n = rw (t, u) at d in
     let z : length rs ≡ n = cc in
     record { rs = rs; is_read = e; no-fault = h; few = ltb-false 512 (length rs) t; counted = sym z }))
 
-was_read : (w l out : List ℕ) (n : ℕ) → reading w l out ≡ Done n → Read w l n
+was_read : (w l out : List ℕ) (n : ℕ) → reading w l out ≡ Ok n → Read w l n
 unfolding reading
 was_read w l out n d =
     by_test (list_fault l)
-    (λ t. absurd (let y : Refused (Name 0) ≡ Done n = rw t at d in let z : ◌≡◌ {A = ℕ} 0 1 = cc in omega arith))
+    (λ t. absurd (let y : Err (Name 0) ≡ Ok n = rw t at d in let z : ◌≡◌ {A = ℕ} 0 1 = cc in omega arith))
     (λ t. was_fit w l out n (read_text w (entries l)) refl t (rw t at d))
 
 -- ## And what is then written, and read again
@@ -92,22 +91,22 @@ module _ (w l : List ℕ) (n : ℕ) (g : Read w l n) where
   reads_again : read_text (again w l) (entries l) ≡ reads g.rs
   reads_again = ap (λ (v : List ℕ). read_text v (entries l)) again_is ∙ (records_again w (entries l) g.rs g.is_read).1
 
-  unrefused : first (record_checks Routine (bytes_read w l)) ≡ none
+  unrefused : first (record_checks Routine (bytes_read w l)) ≡ None
   unrefused = ap (λ (v : List ℕ). first (record_checks Routine v)) bytes_are ∙ no-refusal most_entries g.few right
 
   all_named : nameless (entries l) (records (bytes_read w l)) ≡ 0
   all_named = ap (nameless (entries l)) records_are ∙ (records_again w (entries l) g.rs g.is_read).0
 
-  written_again : (text : List ℕ) → length (again w l) ≤ length text → writing (bytes_read w l) l text ≡ Done (length (again w l))
+  written_again : (text : List ℕ) → length (again w l) ≤ length text → writing (bytes_read w l) l text ≡ Ok (length (again w l))
   unfolding writing writes unless_refused text_written
   written_again text h = rw (unrefused, g.no-fault, all_named, le-ltb (length text) (length (again w l)) h)
 
-  read_again : (out : List ℕ) → 8 * n ≤ length out → reading (again w l) l out ≡ Done n
+  read_again : (out : List ℕ) → 8 * n ≤ length out → reading (again w l) l out ≡ Ok n
   unfolding reading fits short most
   read_again out h =
       let c = g.counted in
       let r : 8 * length g.rs ≤ length out = omega arith in
-      rw (g.no-fault, reads_again, le-ltb 512 (length g.rs) g.few, le-ltb (length out) (8 * length g.rs) r) (ap Done (sym c))
+      rw (g.no-fault, reads_again, le-ltb 512 (length g.rs) g.few, le-ltb (length out) (8 * length g.rs) r) (ap Ok (sym c))
 
   same_again : bytes_read (again w l) l ≡ bytes_read w l
   unfolding bytes_read records_read

@@ -4,8 +4,8 @@ use Prim.Native.Nat.{◌≤◌}
 use Prim.Native.Char.{code}
 use native.Mathlib.Omega.{arith}
 use borrow.Author.Tests.{eqb-true}
-use Rattle.std.specs.Prelude.{◌∷◌, ◌++◌}
-use Rattle.rules.specs.Words.{ℕ, suc, true, Option, none, some, List, [], eqb}
+use Rattle.std.specs.Prelude.{◌∷◌, ◌++◌, Ok, Err}
+use Rattle.rules.specs.Words.{ℕ, suc, true, Option, None, Some, List, [], eqb}
 use Rattle.rules.specs.declared.Refusal.{Refusal}
 use Rattle.rules.specs.declared.Notation.TheVariants.{Routine}
 use Rattle.rules.specs.Record.{Rec, count, records}
@@ -15,15 +15,13 @@ use Rattle.laws.proofs.Records as paper
 use Rattle.laws.proofs.Refusals.{fine}
 use Rattle.text.specs.declared.Sort.TheVariants.{Blank}
 use Rattle.text.specs.declared.TextRefusal.TheVariants.{Name}
-use Rattle.text.specs.declared.TextVerdict.{TextVerdict}
-use Rattle.text.specs.declared.TextVerdict.TheVariants.{Done, Refused}
+use Rattle.text.specs.Answers.{TextVerdict, writes, unless_refused, writing, text_written}
 use Rattle.text.specs.Bytes.{blank, in_sort}
 use Rattle.text.specs.Forms.{a, signs_of, letter_of}
 use Rattle.text.specs.Names.{entries, list_fault, proper}
 use Rattle.text.specs.Writing.{written, written_signs, further_ones, text_of, nameless_from, nameless}
-use Rattle.text.specs.Answers.{writes, unless_refused, writing, text_written}
 use Rattle.text.specs.Grammar as grammar
-use Rattle.text.specs.Grammar.{All, Some, last, more, blanks, some}
+use Rattle.text.specs.Grammar.{All, Instructions, last, more, blanks, some}
 use Rattle.text.proofs.Tests.{by_test, never}
 use Rattle.written.specs.Promises.{WritesTexts}
 use Rattle.written.proofs.Formed.{Instruction, instruction}
@@ -59,13 +57,13 @@ pub form_of_lem : (es : List (List ℕ)) (r : Rec) (q : Instruction es r) → wr
 form_of_lem es r q = ap (λ (i : ℕ). written_signs es r (signs_of i)) q.is_form
 
 module _ (es : List (List ℕ)) where
-  one_more : (b : List ℕ) (r : Rec) (v : List ℕ) → All Blank b → Instruction es r → Some v → Some (b ++ (written es r ++ (code ";" ∷ v)))
+  one_more : (b : List ℕ) (r : Rec) (v : List ℕ) → All Blank b → Instruction es r → Instructions v → Instructions (b ++ (written es r ++ (code ";" ∷ v)))
   one_more b r v bs q m = rw (form_of_lem es r q) (more q.number b _ [] q.listed bs q.parts.form tt m)
 
-  only_one : (b : List ℕ) (r : Rec) → All Blank b → Instruction es r → Some (b ++ (written es r ++ []))
+  only_one : (b : List ℕ) (r : Rec) → All Blank b → Instruction es r → Instructions (b ++ (written es r ++ []))
   only_one b r bs q = rw (form_of_lem es r q) (last q.number b _ [] q.listed bs q.parts.form tt)
 
-  some_of : (b : List ℕ) (r : Rec) (rs : List Rec) → All Blank b → Instruction es r → paper.All (Instruction es) rs → Some (b ++ (written es r ++ further_ones es rs))
+  some_of : (b : List ℕ) (r : Rec) (rs : List Rec) → All Blank b → Instruction es r → paper.All (Instruction es) rs → Instructions (b ++ (written es r ++ further_ones es rs))
   unfolding further_ones
   some_of b r [] bs q p = only_one b r bs q
   some_of b r (r' ∷ rs) bs q p = one_more b r _ bs q (some_of space r' rs space_blank p.0 p.1)
@@ -78,24 +76,24 @@ module _ (es : List (List ℕ)) where
 -- ## Over the call's answer
 
 pub record Writable (f l : List ℕ) : Type 0 where
-  pub checked : first (record_checks Routine f) ≡ none
+  pub checked : first (record_checks Routine f) ≡ None
   pub all_named : nameless (entries l) (records f) ≡ 0
 
-no-earlier : (c : Option Refusal) (v : TextVerdict) (n : ℕ) → unless_refused c v ≡ Done n → (c ≡ none) × (v ≡ Done n)
+no-earlier : (c : Option Refusal) (v : TextVerdict) (n : ℕ) → unless_refused c v ≡ Ok n → (c ≡ None) × (v ≡ Ok n)
 unfolding unless_refused
-no-earlier none v n e = (refl, e)
-no-earlier (some r) v n e = absurd (let z : ◌≡◌ {A = ℕ} 0 1 = cc in omega arith)
+no-earlier None v n e = (refl, e)
+no-earlier (Some r) v n e = absurd (let z : ◌≡◌ {A = ℕ} 0 1 = cc in omega arith)
 
-pub writable : (f l text : List ℕ) (n : ℕ) → writing f l text ≡ Done n → Writable f l
+pub writable : (f l text : List ℕ) (n : ℕ) → writing f l text ≡ Ok n → Writable f l
 unfolding writing writes
 writable f l text n e =
     let h = no-earlier (first (record_checks Routine f)) _ n e in
     by_test (list_fault l)
-    (λ t. absurd (let y : Refused (Name 0) ≡ Done n = (rw t at h).1 in let z : ◌≡◌ {A = ℕ} 0 1 = cc in omega arith))
+    (λ t. absurd (let y : Err (Name 0) ≡ Ok n = (rw t at h).1 in let z : ◌≡◌ {A = ℕ} 0 1 = cc in omega arith))
     (λ t. let p = nameless (entries l) (records f) in
     by_test (eqb p 0)
     (λ u. record { checked = h.0; all_named = eqb-true p 0 u })
-    (λ u. absurd (let y : Refused (Name p) ≡ Done n = (rw (t, u) at h).1 in let z : ◌≡◌ {A = ℕ} 0 1 = cc in omega arith)))
+    (λ u. absurd (let y : Err (Name p) ≡ Ok n = (rw (t, u) at h).1 in let z : ◌≡◌ {A = ℕ} 0 1 = cc in omega arith)))
 
 pub written_texts : WritesTexts
 unfolding text_written

@@ -1,8 +1,7 @@
 -- What is proved of the texts that are written: they are texts, and what was read comes back.
-use Rattle.std.specs.Prelude.{◌≡◌, ◌≤◌, ◌<◌, ◌*◌, ◌||◌, ◌∷◌, ◌++◌}
+use Rattle.std.specs.Prelude.{◌≡◌, ◌≤◌, ◌<◌, ◌*◌, ◌||◌, ◌∷◌, ◌++◌, Ok}
 use Rattle.rules.specs.Words.{ℕ, suc, cond, List, [], map, length, get_or, eqb, ltb}
 use Rattle.rules.specs.Record.{Rec, records}
-use Rattle.text.specs.declared.TextVerdict.TheVariants.{Done}
 use Rattle.text.specs.Forms.{s, t, signs_of}
 use Rattle.text.specs.Names.{entries}
 use Rattle.text.specs.Reading.{reads, read_text}
@@ -13,7 +12,7 @@ use Rattle.text.specs.Grammar as grammar
 -- ## What is written is in the grammar (proofs/Texts)
 
 abbrev pub WritesTexts : Type 0
-WritesTexts = (s l text : List ℕ) (n : ℕ) → writing s l text ≡ Done n → grammar.Text (text_written s l)
+WritesTexts = (s l text : List ℕ) (n : ℕ) → writing s l text ≡ Ok n → grammar.Text (text_written s l)
 
 -- ## Writing what was read, and reading it again (proofs/RoundTrip)
 
@@ -30,12 +29,12 @@ again w l = text_written (bytes_read w l) l
 
 -- Of a text w from which n records were read: given room, they are written, and from what is written n records are read, the same.
 pub record Back (w l : List ℕ) (n : ℕ) : Type 0 where
-  pub is_written : (text : List ℕ) → length (again w l) ≤ length text → writing (bytes_read w l) l text ≡ Done (length (again w l))
-  pub is_read : (out : List ℕ) → 8 * n ≤ length out → reading (again w l) l out ≡ Done n
+  pub is_written : (text : List ℕ) → length (again w l) ≤ length text → writing (bytes_read w l) l text ≡ Ok (length (again w l))
+  pub is_read : (out : List ℕ) → 8 * n ≤ length out → reading (again w l) l out ≡ Ok n
   pub same : bytes_read (again w l) l ≡ bytes_read w l
 
 abbrev pub RoundTrip : Type 0
-RoundTrip = (w l out : List ℕ) (n : ℕ) → reading w l out ≡ Done n → Back w l n
+RoundTrip = (w l out : List ℕ) (n : ℕ) → reading w l out ≡ Ok n → Back w l n
 
 -- ## Any routine, written and read (proofs/Routines)
 
@@ -70,5 +69,5 @@ LabelsInOrder = (w : List ℕ) (es : List (List ℕ)) (rs : List Rec) → read_t
 
 abbrev pub RoutineBack : Type 0
 RoutineBack =
-    (f l text : List ℕ) (n : ℕ) → writing f l text ≡ Done n → Distinct (entries l) → InOrder 0 (label_numbers (records f))
+    (f l text : List ℕ) (n : ℕ) → writing f l text ≡ Ok n → Distinct (entries l) → InOrder 0 (label_numbers (records f))
     → read_text (text_written f l) (entries l) ≡ reads (records f)

@@ -8,7 +8,7 @@ use lib.ListN.{length-append}
 use lib.Dec.{eqb-zero-suc, leb-suc-zero}
 use borrow.Author.Tests.{le-leb, lt-leb, eqb-true, eqb-false}
 use Rattle.std.specs.Prelude.{◌+◌, ◌∷◌, ◌++◌}
-use Rattle.rules.specs.Words.{ℕ, zero, suc, Bool, true, false, cond, Option, none, some, List, [], map, length, eqb, leb}
+use Rattle.rules.specs.Words.{ℕ, zero, suc, Bool, true, false, cond, Option, None, Some, List, [], map, length, eqb, leb}
 use Rattle.rules.specs.Instruction.{pop, compare, conditional, Op, act, jump, header, separator, end}
 use Rattle.rules.specs.Numbers.{at, given, past, names, move_to}
 use Rattle.rules.specs.Nesting.{bracket, Body, nothing, single, two_armed}
@@ -50,9 +50,9 @@ less m = with_stack (popped m.stack) m
 -- The next number down is tried where j + 1 is not on top.
 leaving_suc : (j : ℕ) (t : Option ℕ) (m : Mem) → leaving (suc j) t m ≡ cond (equals t (suc j)) (go (suc j) (less m)) (leaving j t m)
 unfolding leaving equals names
-leaving_suc j none m = refl
-leaving_suc j (some zero) m = rw (eqb-zero-suc j)
-leaving_suc j (some (suc t)) m = by (eqb (suc t) (suc j)) refl
+leaving_suc j None m = refl
+leaving_suc j (Some zero) m = rw (eqb-zero-suc j)
+leaving_suc j (Some (suc t)) m = by (eqb (suc t) (suc j)) refl
   where
     by : (b : Bool) → eqb (suc t) (suc j) ≡ b
         → cond (leb (suc t) (suc j)) (go (suc t) (less m)) (go 0 m) ≡ cond b (go (suc j) (less m)) (cond (leb (suc t) j) (go (suc t) (less m)) (go 0 m))
@@ -65,9 +65,9 @@ leaving_suc j (some (suc t)) m = by (eqb (suc t) (suc j)) refl
 
 leaving_zero : (t : Option ℕ) (m : Mem) → leaving 0 t m ≡ go 0 m
 unfolding leaving names
-leaving_zero none m = refl
-leaving_zero (some zero) m = refl
-leaving_zero (some (suc t)) m = rw (leb-suc-zero t)
+leaving_zero None m = refl
+leaving_zero (Some zero) m = refl
+leaving_zero (Some (suc t)) m = rw (leb-suc-zero t)
 
 -- What is on top is popped.
 popped-top : (m : Mem) (y : ℕ) → equals (top m.stack) y ≡ true → perform pop m ≡ did true (less m)
@@ -75,8 +75,8 @@ unfolding perform equals nonempty
 popped-top m y e = ap (λ (r : Bool). did r (less m)) (by (top m.stack) e)
   where
     by : (t : Option ℕ) → equals t y ≡ true → nonempty t ≡ true
-    by none e = clash cc
-    by (some t) e = refl
+    by None e = clash cc
+    by (Some t) e = refl
 
 module _ (L' : List Op) (n : ℕ) (P Q : ℕ → ℕ) (goes : (t : ℕ) → move_to (length L') (Q t) ≡ P (move_to n t)) where
   -- Steps from q lead to what `leaving` says: it never stops.
@@ -89,7 +89,7 @@ module _ (L' : List Op) (n : ℕ) (P Q : ℕ → ℕ) (goes : (t : ℕ) → move
   before q r m b c (halt w) s e a = a
 
   -- A jump of the chain.
-  leads : (q j : ℕ) (m : Mem) → j ≤ n → at L' q ≡ some (jump (Q j)) → Way L' q m (P j) m 1
+  leads : (q j : ℕ) (m : Mem) → j ≤ n → at L' q ≡ Some (jump (Q j)) → Way L' q m (P j) m 1
   leads q j m h e = subst (λ (p : ℕ). Way L' q m (P p) m 1) (move_in n j h) (jumped L' n P q m j (Q j) e (goes j))
 
   -- One link: on a match it pops and goes to j + 1, else it goes on to its second arm, which stands four places further.

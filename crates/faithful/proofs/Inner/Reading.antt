@@ -4,9 +4,9 @@ use mathlib.Core.Path.{◌≡◌, refl, sym, ap, ◌∙◌, subst, fun_ext}
 use Prim.Native.Nat.{◌<◌}
 use native.Mathlib.Nat.{add-zero}
 use native.Mathlib.Omega.{arith}
-use mathlib.Core.List.{tail, head?, append_assoc, append-nil}
+use mathlib.Core.List.{tail, append_assoc, append-nil}
 use Rattle.std.specs.Prelude.{◌+◌, ◌&&◌, ◌∷◌, ◌++◌}
-use Rattle.rules.specs.Words.{ℕ, zero, suc, Bool, true, false, cond, Option, none, some, List, [], length, drop, get_or, get_elem?}
+use Rattle.rules.specs.Words.{ℕ, zero, suc, Bool, true, false, cond, Option, None, Some, List, [], length, drop, get_or, slice_get}
 use Rattle.rules.specs.Instruction.{Act, Sort, conditional, loop, Op, header, separator, end}
 use Rattle.rules.specs.Numbers.{at, past}
 use Rattle.rules.specs.Nesting.{alone, bracket, Body, nothing, single, looping, one_armed, two_armed}
@@ -27,7 +27,7 @@ drop-tail zero (x ∷ L) = refl
 drop-tail (suc k) [] = refl
 drop-tail (suc k) (x ∷ L) = drop-tail k L
 
-drop_head : (k : ℕ) (L : List Op) → get_elem? L k ≡ head? (drop k L)
+drop_head : (k : ℕ) (L : List Op) → slice_get L k ≡ slice_get (drop k L) 0
 drop_head zero [] = refl
 drop_head zero (x ∷ L) = refl
 drop_head (suc k) [] = refl
@@ -37,11 +37,11 @@ pub from_drop : {L : List Op} {k : ℕ} {os : List Op} → From L k os → drop 
 from_drop whole = refl
 from_drop {L} (next {k} t) = drop-tail k L ∙ ap tail (from_drop t)
 
-pub drop_at : (k : ℕ) (L : List Op) (o : Op) (os : List Op) → drop k L ≡ o ∷ os → at L (suc k) ≡ some o
+pub drop_at : (k : ℕ) (L : List Op) (o : Op) (os : List Op) → drop k L ≡ o ∷ os → at L (suc k) ≡ Some o
 unfolding at
-drop_at k L o os e = drop_head k L ∙ ap head? e
+drop_at k L o os e = drop_head k L ∙ ap (λ (M : List Op). slice_get M 0) e
 
-pub from_at : {L : List Op} {k : ℕ} {o : Op} {os : List Op} → From L k (o ∷ os) → at L (suc k) ≡ some o
+pub from_at : {L : List Op} {k : ℕ} {o : Op} {os : List Op} → From L k (o ∷ os) → at L (suc k) ≡ Some o
 from_at {L} {k} t = drop_at k L _ _ (from_drop t)
 
 pub from_length : {L : List Op} {k : ℕ} {os : List Op} → From L k os → k + length os ≡ length L
@@ -49,11 +49,11 @@ from_length whole = omega arith
 from_length (next t) = omega (arith, from_length t)
 
 -- Every record stands somewhere.
-pub from_of : (L : List Op) (k : ℕ) (o : Op) → at L (suc k) ≡ some o → (os : List Op) × From L k (o ∷ os)
+pub from_of : (L : List Op) (k : ℕ) (o : Op) → at L (suc k) ≡ Some o → (os : List Op) × From L k (o ∷ os)
 unfolding at
 from_of L k o e = let r = by L k 0 whole e in (r.0, subst (λ (j : ℕ). From L j (o ∷ r.0)) (add-zero k) r.1)
   where
-    by : (M : List Op) (j q : ℕ) → From L q M → get_elem? M j ≡ some o → (os : List Op) × From L (j + q) (o ∷ os)
+    by : (M : List Op) (j q : ℕ) → From L q M → slice_get M j ≡ Some o → (os : List Op) × From L (j + q) (o ∷ os)
     by [] j q t e = clash cc
     by (x ∷ M) zero q t e = let h : x ≡ o = cc in (M, subst (λ (y : Op). From L (0 + q) (y ∷ M)) h (subst (λ (j : ℕ). From L j (x ∷ M)) (omega arith) t))
     by (x ∷ M) (suc j) q t e = let r = by M j (suc q) (next t) e in (r.0, subst (λ (i : ℕ). From L i (o ∷ r.0)) (omega arith) r.1)
@@ -205,17 +205,17 @@ header_of_lem {L} {k} {o} t b e =
     header_back L k o h b (ap (role b) g ∙ e)
 
 -- A header that is found is one.
-pub header-found : (b : Sort) (L : List Op) (i j : ℕ) → header_of b L i ≡ suc j → (o : Op) × (at L (suc j) ≡ some o) × (role b o ≡ opens)
+pub header-found : (b : Sort) (L : List Op) (i j : ℕ) → header_of b L i ≡ suc j → (o : Op) × (at L (suc j) ≡ Some o) × (role b o ≡ opens)
 unfolding header_of header_up_to is_header opening
 header-found b L i j e = up i e
   where
     Found : Type 0
-    Found = (o : Op) × (at L (suc j) ≡ some o) × (role b o ≡ opens)
+    Found = (o : Op) × (at L (suc j) ≡ Some o) × (role b o ≡ opens)
 
     by : (n : ℕ) (x : Option Op) → at L (suc n) ≡ x → (y : Bool) → cond (is_header b x && y) (suc n) (header_up_to b L i n) ≡ suc j
         → (header_up_to b L i n ≡ suc j → Found) → Found
-    by n none a y e f = f e
-    by n (some o) a y e f = is (role b o) refl y e
+    by n None a y e f = f e
+    by n (Some o) a y e f = is (role b o) refl y e
       where
         is : (r : Role) → role b o ≡ r → (y : Bool) → cond (opening r && y) (suc n) (header_up_to b L i n) ≡ suc j → Found
         is opens q true e = (o, ap (at L) (sym e) ∙ a, q)

@@ -4,7 +4,7 @@ use mathlib.Core.Path.{◌≡◌, refl, sym, ap, ◌∙◌, subst}
 use Prim.Native.Nat.{◌≤◌, zero-le}
 use native.Mathlib.Omega.{arith}
 use Rattle.std.specs.Prelude.{◌+◌, ◌∷◌}
-use Rattle.rules.specs.Words.{ℕ, zero, suc, Bool, true, false, not, cond, Option, none, some, List, [], length}
+use Rattle.rules.specs.Words.{ℕ, zero, suc, Bool, true, false, not, cond, Option, None, Some, List, [], length}
 use Rattle.rules.specs.declared.Status.{Status}
 use Rattle.rules.specs.Instruction.{Act, push, Op, act, test, jump, label, goto, goto2, header, separator, end, call, return}
 use Rattle.rules.specs.Numbers.{at, move_to}
@@ -38,13 +38,13 @@ cost n separator m = 1
 cost n (end b) m = 1
 
 unfoldable pub cost_of : ℕ → Option Op → Mem → ℕ
-cost_of n none m = 1
-cost_of n (some o) m = cost n o m
+cost_of n None m = 1
+cost_of n (Some o) m = cost n o m
 
 unfoldable pub cost_at : List Op → ℕ → Mem → ℕ
 cost_at L i m = cost_of (length L) (at L i) m
 
-module _ (L : List Op) (i : ℕ) (o : Op) (m : Mem) (e : at L i ≡ some o) where
+module _ (L : List Op) (i : ℕ) (o : Op) (m : Mem) (e : at L i ≡ Some o) where
   pub step_is : step L i m ≡ does (length L) (deed L i o) m
   unfolding step step_at
   step_is = ap (λ (x : Option Op). step_at L i x m) e
@@ -93,23 +93,23 @@ go-halt e = clash cc
 
 -- A simulation, record by record.
 pub simulated : (L L' : List Op) (P : ℕ → ℕ)
-    → ((i : ℕ) (o : Op) → at L i ≡ some o → (m : Mem) → Meets L' P (P i) m (cost (length L) o m) (does (length L) (deed L i o) m))
-    → ((i : ℕ) → at L i ≡ none → at L' (P i) ≡ none) → Sim L L' P
+    → ((i : ℕ) (o : Op) → at L i ≡ Some o → (m : Mem) → Meets L' P (P i) m (cost (length L) o m) (does (length L) (deed L i o) m))
+    → ((i : ℕ) → at L i ≡ None → at L' (P i) ≡ None) → Sim L L' P
 unfolding step step_at
 simulated L L' P met gone = record { steps = λ i m j m₁ e. s i m j m₁ e (at L i) refl; halts = λ i m w e. h i m w e (at L i) refl }
   where
     s : (i : ℕ) (m : Mem) (j : ℕ) (m₁ : Mem) → step L i m ≡ go j m₁ → (x : Option Op) → at L i ≡ x → Way L' (P i) m (P j) m₁ (cost_at L i m)
-    s i m j m₁ e none a = absurd (go-halt (sym (ap (λ (x : Option Op). step_at L i x m) a) ∙ e))
-    s i m j m₁ e (some o) a =
+    s i m j m₁ e None a = absurd (go-halt (sym (ap (λ (x : Option Op). step_at L i x m) a) ∙ e))
+    s i m j m₁ e (Some o) a =
         rw (cost_is L i o m a) (subst (λ (x : Out). Meets L' P (P i) m (cost (length L) o m) x) (sym (step_is L i o m a) ∙ e) (met i o a m))
 
     h : (i : ℕ) (m : Mem) (w : Status) → step L i m ≡ halt w → (x : Option Op) → at L i ≡ x → step L' (P i) m ≡ halt w
-    h i m w e none a = ap (λ (x : Option Op). step_at L' (P i) x m) (gone i a) ∙ sym (ap (λ (x : Option Op). step_at L i x m) a) ∙ e
-    h i m w e (some o) a = subst (λ (x : Out). Meets L' P (P i) m (cost (length L) o m) x) (sym (step_is L i o m a) ∙ e) (met i o a m)
+    h i m w e None a = ap (λ (x : Option Op). step_at L' (P i) x m) (gone i a) ∙ sym (ap (λ (x : Option Op). step_at L i x m) a) ∙ e
+    h i m w e (Some o) a = subst (λ (x : Out). Meets L' P (P i) m (cost (length L) o m) x) (sym (step_is L i o m a) ∙ e) (met i o a m)
 
 -- ## How a deed is done
 
-pub at_in : {A : Type 0} (xs : List A) (i : ℕ) (x : A) → at xs i ≡ some x → i ≤ length xs
+pub at_in : {A : Type 0} (xs : List A) (i : ℕ) (x : A) → at xs i ≡ Some x → i ≤ length xs
 unfolding at
 at_in xs zero x e = zero-le
 at_in [] (suc k) x e = clash cc
@@ -127,7 +127,7 @@ module _ (L' : List Op) (n : ℕ) (P : ℕ → ℕ) where
   abbrev pub Goes : ℕ → ℕ → Type 0
   Goes t' t = here t' ≡ P (there t)
 
-  pub in_place : (q : ℕ) (o : Op) → at L' q ≡ some o → here q ≡ q
+  pub in_place : (q : ℕ) (o : Op) → at L' q ≡ Some o → here q ≡ q
   in_place q o e = move_in (length L') q (at_in L' q o e)
 
   chosen : (b : Bool) (t f t' f' : ℕ) → t' ≡ P t → f' ≡ P f → cond b t' f' ≡ P (cond b t f)
@@ -136,10 +136,10 @@ module _ (L' : List Op) (n : ℕ) (P : ℕ → ℕ) where
 
   module _ (q : ℕ) (m : Mem) where
     -- One step that goes where it should.
-    steps_to : {o : Op} {p p' : ℕ} {m₁ : Mem} → at L' q ≡ some o → step L' q m ≡ go p' m₁ → p' ≡ P p → Way L' q m (P p) m₁ (cost (length L') o m)
+    steps_to : {o : Op} {p p' : ℕ} {m₁ : Mem} → at L' q ≡ Some o → step L' q m ≡ go p' m₁ → p' ≡ P p → Way L' q m (P p) m₁ (cost (length L') o m)
     steps_to {o} {m₁} e s g = first (s ∙ ap (λ (z : ℕ). go z m₁) g) (stay refl) (omega (arith, cost_is L' q o m e))
 
-    pub asked : (o : Op) (a : Act) (v : Bool) (t f t' f' : ℕ) → at L' q ≡ some o → deed L' q o ≡ ask a v t' f' → Goes t' t → Goes f' f
+    pub asked : (o : Op) (a : Act) (v : Bool) (t f t' f' : ℕ) → at L' q ≡ Some o → deed L' q o ≡ ask a v t' f' → Goes t' t → Goes f' f
         → Meets L' P q m (cost (length L') o m) (does n (ask a v t f) m)
     unfolding does branch
     asked o a v t f t' f' e d g h = by (perform a m) (step_is L' q o m e ∙ ap (λ (x : Deed). does (length L') x m) d)
@@ -148,22 +148,22 @@ module _ (L' : List Op) (n : ℕ) (P : ℕ → ℕ) where
         by (did r m₁) s = steps_to e s (chosen (agree v r) (there t) (there f) _ _ g h)
         by (stops w) s = s
 
-    pub leapt : (o : Op) (k k' : ℕ) → at L' q ≡ some o → deed L' q o ≡ leap k' → Goes k' k → Way L' q m (P (there k)) m (cost (length L') o m)
+    pub leapt : (o : Op) (k k' : ℕ) → at L' q ≡ Some o → deed L' q o ≡ leap k' → Goes k' k → Way L' q m (P (there k)) m (cost (length L') o m)
     unfolding does
     leapt o k k' e d g = steps_to e (step_is L' q o m e ∙ ap (λ (x : Deed). does (length L') x m) d) g
 
-  pub jumped : (q : ℕ) (m : Mem) (k k' : ℕ) → at L' q ≡ some (jump k') → Goes k' k → Way L' q m (P (there k)) m 1
+  pub jumped : (q : ℕ) (m : Mem) (k k' : ℕ) → at L' q ≡ Some (jump k') → Goes k' k → Way L' q m (P (there k)) m 1
   unfolding deed cost
   jumped q m k k' e g = leapt q m (jump k') k k' e refl g
 
   module _ (q : ℕ) (m : Mem) where
     -- A step of cost 1 to the jump that stands next.
-    then_jumps : {m₁ : Mem} (k k' : ℕ) → step L' q m ≡ go (here (suc q)) m₁ → cost_at L' q m ≡ 1 → at L' (suc q) ≡ some (jump k') → Goes k' k
+    then_jumps : {m₁ : Mem} (k k' : ℕ) → step L' q m ≡ go (here (suc q)) m₁ → cost_at L' q m ≡ 1 → at L' (suc q) ≡ Some (jump k') → Goes k' k
         → Way L' q m (P (there k)) m₁ 2
     then_jumps {m₁} k k' s c e g = first (s ∙ ap (λ (z : ℕ). go z m₁) (in_place (suc q) _ e)) (jumped (suc q) m₁ k k' e g) (omega arith)
 
     -- A header that became the test turned round, and a jump.
-    pub opened : (a : Act) (v : Bool) (t f f' : ℕ) → at L' q ≡ some (test (not v) a) → at L' (suc q) ≡ some (jump f') → Goes (suc (suc q)) t → Goes f' f
+    pub opened : (a : Act) (v : Bool) (t f f' : ℕ) → at L' q ≡ Some (test (not v) a) → at L' (suc q) ≡ Some (jump f') → Goes (suc (suc q)) t → Goes f' f
         → Meets L' P q m (fork_cost v (perform a m)) (does n (ask a v t f) m)
     unfolding does deed cost branch agree fork_cost
     opened a v t f f' e e₁ g h = by (perform a m) (step_is L' q _ m e)
@@ -183,7 +183,7 @@ module _ (L' : List Op) (n : ℕ) (P : ℕ → ℕ) where
         by (stops w) s = s
 
     -- A call that became a push and a jump.
-    pub called : (r k k' : ℕ) → at L' q ≡ some (act (push r)) → at L' (suc q) ≡ some (jump k') → Goes k' k → Meets L' P q m 2 (does n (enter r k) m)
+    pub called : (r k k' : ℕ) → at L' q ≡ Some (act (push r)) → at L' (suc q) ≡ Some (jump k') → Goes k' k → Meets L' P q m 2 (does n (enter r k) m)
     unfolding does deed cost branch
     called r k k' e e₁ g = by (perform (push r) m) (step_is L' q _ m e)
       where

@@ -7,7 +7,7 @@ use native.Mathlib.Nat.{zero-add}
 use native.Mathlib.Omega.{arith}
 use lib.Dec.{leb→le}
 use Rattle.std.specs.Prelude.{◌+◌, ◌∷◌, ◌++◌}
-use Rattle.rules.specs.Words.{ℕ, zero, suc, Bool, true, false, none, some, List, [], map, length, get_elem?}
+use Rattle.rules.specs.Words.{ℕ, zero, suc, Bool, true, false, None, Some, List, [], map, length, slice_get}
 use Rattle.rules.specs.Instruction.{Act, Sort, conditional, loop, Op, act, test, jump, label, goto, goto2, header, separator, end, call, return}
 use Rattle.rules.specs.Numbers.{at, each, given, past, move_to}
 use Rattle.rules.specs.Nesting.{bracket}
@@ -89,7 +89,7 @@ module _ (k : ℕ) (small : k ≤ 2) (f : ℕ → Op → Group) (L : List Op) (g
   unfolding each at
   width {j} {o} t = by 0 1 L j (from_at t) ∙ ap (λ (i : ℕ). over (members (f i o)) (pre j)) (omega arith) ∙ sym (over_sent Q (members (f (suc j) o)) (pre j))
     where
-      by : (q p : ℕ) (M : List Op) (j : ℕ) → get_elem? M j ≡ some o → ahead q (each f p M) (suc j) ≡ over (members (f (j + p) o)) (ahead q (each f p M) j)
+      by : (q p : ℕ) (M : List Op) (j : ℕ) → slice_get M j ≡ Some o → ahead q (each f p M) (suc j) ≡ over (members (f (j + p) o)) (ahead q (each f p M) j)
       by q p [] j e = clash cc
       by q p (x ∷ M) zero e = let h : x ≡ o = cc in rw (zero-add p, h)
       by q p (x ∷ M) (suc j) e =
@@ -168,8 +168,8 @@ module _ (k : ℕ) (small : k ≤ 2) (f : ℕ → Op → Group) (L : List Op) (g
 
   -- ## Each record is done by its group
 
-  abbrev Done : ℕ → Op → Mem → Type 0
-  Done j o m = Meets L' P (suc (pre j)) m (cost (length L) o m) (does (length L) (deed L (suc j) o) m)
+  abbrev Ok : ℕ → Op → Mem → Type 0
+  Ok j o m = Meets L' P (suc (pre j)) m (cost (length L) o m) (does (length L) (deed L (suc j) o) m)
 
   skipping : {j : ℕ} {o : Op} (os : List Op) {x : Op} → One j o os x → Calm true os
       → move_to (length L') (suc (suc (suc (pre j)))) ≡ P (move_to (length L) (suc (suc (suc j))))
@@ -183,7 +183,7 @@ module _ (k : ℕ) (small : k ≤ 2) (f : ℕ → Op → Group) (L : List Op) (g
       let w : pre (suc (suc j)) ≡ suc (pre (suc j)) = width (next u.there) ∙ ap (λ (xs : List Op). over xs (pre (suc j))) s.1 in
       to _ (suc (suc (suc j))) (ap (λ (q : ℕ). suc (suc q)) (sym u.wide) ∙ ap suc (sym w))
 
-  keep : {j : ℕ} (o : Op) {os : List Op} → rank o ≤ k → One j o os (sent Q o) → (m : Mem) → Done j o m
+  keep : {j : ℕ} (o : Op) {os : List Op} → rank o ≤ k → One j o os (sent Q o) → (m : Mem) → Ok j o m
   unfolding sent deed does cost role role_of bracket
   keep {j} (act a) r u m = asked L' (length L) P (suc (pre j)) m (act a) a true _ _ _ _ (from_at u.here) refl (onward u) (onward u)
   keep {j} (test v a) {os} r u m =
@@ -205,7 +205,7 @@ module _ (k : ℕ) (small : k ≤ 2) (f : ℕ → Op → Group) (L : List Op) (g
   keep return r u m = absurd (omega arith)
 
   done : {j : ℕ} {o : Op} {os : List Op} (g : Group) → Turns L k (suc j) o g → From L j (o ∷ os)
-      → From L' (pre j) (map (sent Q) (members g) ++ laid_from (suc j) os) → pre (suc j) ≡ over (map (sent Q) (members g)) (pre j) → (m : Mem) → Done j o m
+      → From L' (pre j) (map (sent Q) (members g) ++ laid_from (suc j) os) → pre (suc j) ≡ over (map (sent Q) (members g)) (pre j) → (m : Mem) → Ok j o m
   unfolding members sent deed does cost
   done g (keeps {o = o} r) t t' w m = keep o (leb→le (rank o) k r) (record { there = t; here = t'; wide = w }) m
   done {j} g (leaps {x = x} d c ot) t t' w m = rw (c (length L) m, d) (jumped L' (length L) P (suc (pre j)) m x (Q x) (from_at t') (jumps x))
@@ -226,11 +226,11 @@ module _ (k : ℕ) (small : k ≤ 2) (f : ℕ → Op → Group) (L : List Op) (g
   unfolding at laid each
   sim = simulated L L' P met gone
     where
-      met : (i : ℕ) (o : Op) → at L i ≡ some o → (m : Mem) → Meets L' P (P i) m (cost (length L) o m) (does (length L) (deed L i o) m)
+      met : (i : ℕ) (o : Op) → at L i ≡ Some o → (m : Mem) → Meets L' P (P i) m (cost (length L) o m) (does (length L) (deed L i o) m)
       met zero o e m = clash cc
       met (suc j) o e m = let t = (from_of L j o e).1 in done (f (suc j) o) (turn t) t (along t) (width t) m
 
-      gone : (i : ℕ) → at L i ≡ none → at L' (P i) ≡ none
+      gone : (i : ℕ) → at L i ≡ None → at L' (P i) ≡ None
       gone zero e = refl
       gone (suc j) e = in_or_out (length L) (suc j)
           (λ h. let q = at-get_or L j (jump 0) h in clash cc)

@@ -1,13 +1,9 @@
 -- The length so far and what the records left add make the whole, so that none of the sums is above it.
 use mathlib.Core.Path.{◌≡◌}
-use Prim.Native.Nat.{◌+◌, ◌-◌, ◌≤◌}
-use Rattle.rules.specs.Record.{count}
+use Prim.Native.Nat.{◌+◌}
 use Rattle.growth.specs.Length.{base_length}
 use Rattle.growth.proofs.Lengths.{added_from}
 use Rattle.growth.proofs.base_count.Given as goal
 
 abbrev pub invariant-loop-k : goal.invariant-loop-k
-invariant-loop-k l = (l.k ≤ count l.s) × (base_length l.s ≡ l.length + added_from l.s l.k)
-
-abbrev pub decreases-loop-k : goal.decreases-loop-k
-decreases-loop-k l = count l.s - l.k
+invariant-loop-k l = base_length l.s ≡ l.length + added_from l.s l.k

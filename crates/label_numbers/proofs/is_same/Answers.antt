@@ -1,24 +1,34 @@
-use mathlib.Core.Path.{sym, ap, ◌∙◌}
+use mathlib.Core.Path.{sym, ◌∙◌}
 use Prim.Native.Nat.{◌-◌}
 use native.Mathlib.Omega.{arith}
-use lib.Dec.{eqb}
-use Rattle.text.specs.declared.Sort.TheVariants.{Named}
-use Rattle.text.specs.Names.{name_at}
-use Rattle.runs.proofs.Runs.{in_run}
-use Rattle.names.proofs.Same.{run_most}
-use Rattle.label_numbers.proofs.Search.{last_off, none_there}
+use lib.ListN.{length}
+use Rattle.label_numbers.proofs.Names.{none_there, same_full, same_short, same_not, same_past, same_differs}
 use Rattle.label_numbers.proofs.is_same.Goals as goal
 
 pub returns-then-s-q : goal.returns-then-s-q
-returns-then-s-q c = let a = c.args in ap (λ n. eqb n 0) c.requires.1 ∙ sym (none_there (name_at a.s.now a.at) a.s.now a.q c.if-s-q.true)
+returns-then-s-q c = let a = c.args in sym (none_there a.name.now a.s.now a.q c.if-s-q.true)
 
-pub overflow_add-at : goal.overflow_add-at
-overflow_add-at c = let a = c.args in omega (arith, c.requires.1, in_run Named a.s.now a.at 16 (a.n - 1) (omega (arith, c.requires.1, c.if-n-eq0.false)))
+pub returns-then-rest-n : goal.returns-then-rest-n
+returns-then-rest-n c =
+    let a = c.args in let p = c.requires in
+    sym (same_past a.name.now a.s.now a.q p.0 p.1 c.if-rest-n.true)
 
-pub overflow_add-q : goal.overflow_add-q
-overflow_add-q c = let a = c.args in omega (arith, c.requires.1, run_most Named a.s.now a.at 16)
+pub returns-then-name-n : goal.returns-then-name-n
+returns-then-name-n c =
+    let a = c.args in let p = c.requires in
+    sym (same_differs a.name.now a.s.now a.q p.0 p.1 (length a.name.now - 1) (omega (arith, c.if-n-ne0.true)) c.if-name-n.true)
 
-pub returns-then-byte_at : goal.returns-then-byte_at
-returns-then-byte_at c =
-    let a = c.args in
-    sym (last_off a.s.now a.at a.q (a.n - 1) (omega (arith, c.requires.1, c.if-n-eq0.false)) (λ e. c.if-byte_at.true (c.byte_at.ensures ∙ e ∙ sym c.byte_at-2.ensures)))
+pub returns-then-n-eq16 : goal.returns-then-n-eq16
+returns-then-n-eq16 c =
+    let a = c.args in let p = c.requires in
+    rw c.if-n-eq16.true (sym (same_full a.name.now a.s.now a.q p.0 p.1 (sym c.starts_with.ensures.value ∙ c.if-starts_with.true) c.if-n-eq16.true))
+
+pub returns-else-n-eq16 : goal.returns-else-n-eq16
+returns-else-n-eq16 c =
+    let a = c.args in let p = c.requires in
+    rw (c.in_sort.ensures, c.byte_at.ensures) (sym (same_short a.name.now a.s.now a.q p.0 p.1 (sym c.starts_with.ensures.value ∙ c.if-starts_with.true) c.if-n-eq16.false))
+
+pub returns-else-starts_with : goal.returns-else-starts_with
+returns-else-starts_with c =
+    let a = c.args in let p = c.requires in
+    c.if-starts_with.false ∙ sym (same_not a.name.now a.s.now a.q p.0 p.1 (sym c.starts_with.ensures.value ∙ c.if-starts_with.false))

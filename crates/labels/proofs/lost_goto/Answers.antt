@@ -1,15 +1,18 @@
-use mathlib.Core.Path.{sym, ◌∙◌}
-use Rattle.labels.proofs.Targets.{losts_start, losts_out, lost_here, lost_not}
+use mathlib.Core.Path.{refl, sym, ◌∙◌}
+use Prim.Native.Nat.{◌+◌}
+use native.Mathlib.Omega.{arith}
+use Rattle.std.proofs.Common.{rules, tests}
+use Rattle.std.proofs.lemmas.Iterator.{YieldsList-from_range}
+use Rattle.std.proofs.lemmas.Iterator.Adapters.{option_map_id}
+use Rattle.std.proofs.lemmas.Iterator.Search.{find_from_yields_List}
+use Rattle.rules.specs.Record.{count}
+use Rattle.labels.specs.Lost.{lost_at}
+use Rattle.labels.proofs.Targets.{lowest}
 use Rattle.labels.proofs.lost_goto.Goals as goal
 
-pub loop-k-init : goal.loop-k-init
-loop-k-init c = losts_start _
-
-pub returns-then-is_lost : goal.returns-then-is_lost
-returns-then-is_lost c = let t = c in sym (t.loop-k.invariant ∙ lost_here _ _ t.loop-k-test.true (sym c.is_lost.ensures ∙ c.if-is_lost.true))
-
-pub loop-k-preserved : goal.loop-k-preserved
-loop-k-preserved c = let t = c in t.loop-k.invariant ∙ lost_not _ _ t.loop-k-test.true (sym c.is_lost.ensures ∙ c.if-is_lost.false)
-
 pub returns : goal.returns
-returns c = sym (c.loop-k.invariant ∙ losts_out _ _ c.loop-k-test.false)
+returns c =
+    let s = c.args.s.now in
+    sym (option_map_id _)
+    ∙ find_from_yields_List (lost_at s) _ _ c.find.result c.find.ensures.ran (YieldsList-from_range 1 (count s + 1) (count s) refl (omega arith)) (λ x b q k. search (rules, tests))
+    ∙ lowest s

@@ -1,56 +1,36 @@
+use Prim.Native.Nat.{ℕ}
 use mathlib.Core.Path.{◌≡◌, sym, ap, ◌∙◌}
-use Prim.Native.Nat.{ℕ, ◌≤◌}
 use native.Mathlib.Omega.{arith}
 use lib.ListN.{replicate}
-use Rattle.rules.specs.declared.Verdict.TheVariants.{Accepted}
-use Rattle.rules.specs.Record.{count}
-use Rattle.rules.specs.Answers.{check_routine, base_count}
-use Rattle.laws.proofs.Refusals.{admitted}
-use Rattle.lower.proofs.Lowering.{ready}
-use Rattle.lower.proofs.Converting.{turned_away_lem, converted, refused, counted, output-short, working-short, enough}
+use Rattle.std.specs.Prelude.{Err}
+use Rattle.std.proofs.Common.{rules}
+use Rattle.lower.proofs.Converting.{turned_away_lem, converted, refused, accepted, output-short, working-short, enough}
 use Rattle.lower.proofs.convert.Goals as goal
+use Rattle.lower.proofs.convert.Goals.{then-out-n-via-then-out-n, then-out-n-via-else-out-n+then-work-n}
+
+pub returns-in_err-check_routine : goal.returns-in_err-check_routine
+returns-in_err-check_routine c =
+    let e : c.from_residual.result ≡ Err c.in_err-check_routine.field-0.0 = search rules in
+    rw e (turned_away_lem (refused _ _ _ (sym c.in_err-check_routine.ensures)))
 
 pub overflow_mul-n : goal.overflow_mul-n
-unfolding base_count
-overflow_mul-n c =
-    let was_accepted : let s = c.args.routine.now in check_routine s ≡ Accepted (count s) = let s = c.args.routine.now in
-    let e = sym c.check_routine-checked.ensures ∙ c.in-Accepted.is in
-    e ∙ ap Accepted (sym (admitted s _ e).counted) in
-    let base : c.base_count-n.result ≡ base_count c.args.routine.now = counted c.args.routine.now c.args.out.now c.args.work.now (was_accepted) c.base_count-n.ensures in
-    let small : c.base_count-n.result ≤ 4096 = omega (arith, base, (ready c.args.routine.now (was_accepted)).short) in
-    omega (arith, small)
+overflow_mul-n c = omega (arith, (accepted _ (sym c.in_ok-check_routine.ensures) c.base_count-n.ensures).small)
 
 pub returns-then-out-n : goal.returns-then-out-n
 returns-then-out-n c =
-    let was_accepted : let s = c.args.routine.now in check_routine s ≡ Accepted (count s) = let s = c.args.routine.now in
-    let e = sym c.check_routine-checked.ensures ∙ c.in-Accepted.is in
-    e ∙ ap Accepted (sym (admitted s _ e).counted) in
-    turned_away_lem (output-short _ _ _ (was_accepted) c.base_count-n.ensures c.if-out-n.true)
-
-pub returns-then-work-n : goal.returns-then-work-n
-returns-then-work-n c =
-    let was_accepted : let s = c.args.routine.now in check_routine s ≡ Accepted (count s) = let s = c.args.routine.now in
-    let e = sym c.check_routine-checked.ensures ∙ c.in-Accepted.is in
-    e ∙ ap Accepted (sym (admitted s _ e).counted) in
-    turned_away_lem (working-short _ _ _ (was_accepted) c.base_count-n.ensures c.if-out-n.false c.if-work-n.true)
+    let u = accepted _ (sym c.in_ok-check_routine.ensures) c.base_count-n.ensures in
+    elim c.then-out-n.branch [
+      | then-out-n-via-then-out-n w ↦ turned_away_lem (output-short _ _ _ u w.if-out-n.true)
+      | then-out-n-via-else-out-n+then-work-n w ↦ turned_away_lem (working-short _ _ _ u w.if-out-n.false w.if-work-n.true)
+    ]
 
 pub write_base-bytes-requires : goal.write_base-bytes-requires
 write_base-bytes-requires c =
-    let was_accepted : let s = c.args.routine.now in check_routine s ≡ Accepted (count s) = let s = c.args.routine.now in
-    let e = sym c.check_routine-checked.ensures ∙ c.in-Accepted.is in
-    e ∙ ap Accepted (sym (admitted s _ e).counted) in
-    let base : c.base_count-n.result ≡ base_count c.args.routine.now = counted c.args.routine.now c.args.out.now c.args.work.now (was_accepted) c.base_count-n.ensures in
-    record { routine_value = was_accepted; routine_in_bounds = (omega (arith, base), omega (arith, base)) }
+    let u = accepted _ (sym c.in_ok-check_routine.ensures) c.base_count-n.ensures in
+    record { routine_value = u.value; routine_in_bounds = (omega (arith, u.base), omega (arith, u.base)) }
 
-pub returns-in-Refused : goal.returns-in-Refused
-returns-in-Refused c = turned_away_lem (refused _ _ _ (sym c.check_routine-checked.ensures ∙ c.in-Refused.is))
-
-pub returns-else-work-n : goal.returns-else-work-n
-returns-else-work-n c =
-    let was_accepted : let s = c.args.routine.now in check_routine s ≡ Accepted (count s) = let s = c.args.routine.now in
-    let e = sym c.check_routine-checked.ensures ∙ c.in-Accepted.is in
-    e ∙ ap Accepted (sym (admitted s _ e).counted) in
-    let base : c.base_count-n.result ≡ base_count c.args.routine.now = counted c.args.routine.now c.args.out.now c.args.work.now (was_accepted) c.base_count-n.ensures in
+pub returns : goal.returns
+returns c =
+    let u = accepted _ (sym c.in_ok-check_routine.ensures) c.base_count-n.ensures in
     let w = c.write_base-bytes in
-    converted (enough _ _ _ (was_accepted) c.base_count-n.ensures c.if-out-n.false c.if-work-n.false) (base) w.ensures
-    (c.clear.ensures ∙ ap (λ (k : ℕ). replicate k 0) w.auto.work)
+    converted (enough _ _ _ u c.if-out-n.false c.if-work-n.false) u.base w.ensures (c.clear.ensures ∙ ap (λ (k : ℕ). replicate k 0) w.auto.work)

@@ -7,18 +7,18 @@ use Rattle.machine.proofs.step_base.Goals as goal
 
 pub drive-requires : goal.drive-requires
 drive-requires c =
-    let z = state_accepted _ c.with_state-verdict.ensures c.in-Accepted.is in
-    let h = base_right _ c.check_base.ensures (replies-accepted _ c.with_replies.ensures z.0) in
+    let z = state_accepted _ c.with_state.ensures c.in-Ok.is in
+    let h = base_right _ c.check_records.ensures (replies-accepted _ c.with_replies.ensures z.0) in
     record { s_bound = h.1; by_index = λ j e l. h.2 j e }
 
-pub returns-in-Refused : goal.returns-in-Refused
+pub returns-in-Err : goal.returns-in-Err
 unfolding step_base check_records
-returns-in-Refused c =
-    step-refused (record_checks Base _) _ _ _ _ _ _ c.check_base.ensures c.with_replies.ensures c.with_state-verdict.ensures _ _ _ c.in-Refused.is c.turned_away.ensures
+returns-in-Err c =
+    step-refused (record_checks Base _) _ _ _ _ _ _ c.check_records.ensures c.with_replies.ensures c.with_state.ensures _ _ _ c.in-Err.is c.turned_away.ensures
 
-pub returns-in-Accepted : goal.returns-in-Accepted
+pub returns-in-Ok : goal.returns-in-Ok
 unfolding step_base check_records
-returns-in-Accepted c =
-    let z = state_accepted _ c.with_state-verdict.ensures c.in-Accepted.is in
-    let h = base_right _ c.check_base.ensures (replies-accepted _ c.with_replies.ensures z.0) in
-    step-called (record_checks Base _) _ _ _ _ _ _ c.check_base.ensures c.with_replies.ensures c.with_state-verdict.ensures _ _ _ c.in-Accepted.is (omega (arith, z.1, h.0)) _ c.drive.ensures
+returns-in-Ok c =
+    let z = state_accepted _ c.with_state.ensures c.in-Ok.is in
+    let h = base_right _ c.check_records.ensures (replies-accepted _ c.with_replies.ensures z.0) in
+    step-called (record_checks Base _) _ _ _ _ _ _ c.check_records.ensures c.with_replies.ensures c.with_state.ensures _ _ _ c.in-Ok.is (omega (arith, z.1, h.0)) _ c.drive.ensures

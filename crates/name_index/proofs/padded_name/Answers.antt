@@ -1,29 +1,16 @@
 use mathlib.Core.Path.{sym}
-use native.Mathlib.Omega.{arith}
-use Rattle.text.specs.declared.Sort.TheVariants.{Named}
-use Rattle.runs.proofs.Runs.{in_run}
-use Rattle.names.proofs.Same.{run_get, run_most}
-use Rattle.name_index.proofs.Bytes.{copy_start, copy_on, copy-end}
+use lib.Seq.{length-take-le}
+use Rattle.name_index.proofs.Bytes.{at_most_16, padded_is}
 use Rattle.name_index.proofs.padded_name.Goals as goal
 
-pub loop-m-init : goal.loop-m-init
-loop-m-init c = (c.span_of-n.ensures, omega arith, copy_start _)
+pub slice_bounds-name-end : goal.slice_bounds-name-end
+slice_bounds-name-end c = at_most_16 _ _ c.name_at-bytes.ensures
 
-pub overflow_add-name : goal.overflow_add-name
-overflow_add-name c = let a = c.args in let i = in_run Named a.s.now a.at 16 c.loop-m.m (omega arith) in omega arith
+pub slice_bounds-copy_from_slice-end : goal.slice_bounds-copy_from_slice-end
+slice_bounds-copy_from_slice-end c = sym (length-take-le _ _ (at_most_16 _ _ c.name_at-bytes.ensures))
 
-pub bounds-s-at : goal.bounds-s-at
-bounds-s-at c = let a = c.args in in_run Named a.s.now a.at 16 c.loop-m.m (omega arith)
-
-pub bounds-name-m : goal.bounds-name-m
-bounds-name-m c = let a = c.args in omega (arith, run_most Named a.s.now a.at 16)
-
-pub loop-m-preserved : goal.loop-m-preserved
-loop-m-preserved c =
-    let a = c.args in let l = c.loop-m in
-    (l.invariant.0, omega arith, copy_on l.invariant.2 (omega (arith, run_most Named a.s.now a.at 16)) (sym (run_get Named a.s.now a.at 16 l.m (omega arith))))
+pub copy_from_slice-requires : goal.copy_from_slice-requires
+copy_from_slice-requires c = length-take-le _ _ (at_most_16 _ _ c.name_at-bytes.ensures)
 
 pub returns : goal.returns
-returns c =
-    let a = c.args in let l = c.loop-m in
-    copy-end l.invariant.2 (omega arith) (omega (arith, run_most Named a.s.now a.at 16))
+returns c = padded_is _ _ c.name_at-bytes.ensures c.copy_from_slice.ensures.after

@@ -8,7 +8,4 @@ use Rattle.names.proofs.Digits.{tens}
 use Rattle.names.proofs.number_at.Given as goal
 
 abbrev pub invariant-loop-i : goal.invariant-loop-i
-invariant-loop-i l = (l.i ≤ 4) × (l.v < tens l.i) × (l.at + l.i ≤ length l.s) × (number_at l.s l.at ≡ value_of (run Digit l.s (l.at + l.i) (4 - l.i)) l.v)
-
-abbrev pub decreases-loop-i : goal.decreases-loop-i
-decreases-loop-i l = 4 - l.i
+invariant-loop-i l = (l.v < tens l.i) × (l.at + l.i ≤ length l.s) × (number_at l.s l.at ≡ value_of (run Digit l.s (l.at + l.i) (4 - l.i)) l.v)

@@ -1,19 +1,9 @@
-use native.Mathlib.Omega.{arith}
 use Rattle.print.proofs.Decimal.{decimal_one, decimal_more}
-use Rattle.print.proofs.Printing.{print_sizes, print_more, print_as}
+use Rattle.print.proofs.Printing.{print_more, print_as}
 use Rattle.print.proofs.+put_number.Goals as goal
 
 pub returns-then-n-lt10 : goal.returns-then-n-lt10
-returns-then-n-lt10 t c = print_as (decimal_one _ c.if-n-lt10.true) c.put_byte.ensures
-
-pub slice_bounds-put_byte-count : goal.slice_bounds-put_byte-count
-slice_bounds-put_byte-count t c = omega (arith, print_sizes c.put_number-at.ensures)
-
-pub slice_bounds-put_byte-start : goal.slice_bounds-put_byte-start
-slice_bounds-put_byte-start t c = omega (arith, print_sizes c.put_number-at.ensures)
-
-pub overflow_add-result : goal.overflow_add-result
-overflow_add-result t c = omega (arith, print_sizes (print_more c.put_number-at.ensures c.put_byte-2.ensures))
+returns-then-n-lt10 t c = print_as (decimal_one _ c.if-n-lt10.true) c.put_word.ensures
 
 pub returns : goal.returns
-returns t c = print_as (decimal_more _ c.if-n-lt10.false) (print_more c.put_number-at.ensures c.put_byte-2.ensures)
+returns t c = print_as (decimal_more _ c.if-n-lt10.false) (print_more c.put_number-at.ensures c.put_word-2.ensures)

@@ -1,12 +1,8 @@
--- After j turns the first j signs of the form are printed.
-use Prim.Native.Nat.{◌-◌}
-use lib.ListN.{length, take}
+-- The signs passed are printed.
+use lib.ListN.{take}
 use Rattle.print.specs.Text.{filled}
 use Rattle.print.specs.Printing.{Printed}
 use Rattle.print.proofs.put_form.Given as goal
 
-abbrev pub invariant-loop-j : goal.invariant-loop-j
-invariant-loop-j l = Printed (filled (take l.j l.form) l.x l.y) l.initial.text l.text l.at
-
-abbrev pub decreases-loop-j : goal.decreases-loop-j
-decreases-loop-j l = length l.form - l.j
+abbrev pub invariant-loop-p : goal.invariant-loop-p
+invariant-loop-p l = Printed (filled (take l.p-index l.form) l.x l.y) l.initial.text l.text l.at

@@ -1,40 +1,20 @@
-use mathlib.Core.Path.{◌≡◌, sym, ◌∙◌}
-use native.Mathlib.Omega.{arith}
-use Rattle.rules.specs.declared.Notation.TheVariants.{Base}
-use Rattle.rules.specs.declared.Verdict.TheVariants.{Accepted}
-use Rattle.rules.specs.Record.{records}
-use Rattle.rules.specs.Checks.{most}
+use mathlib.Core.Path.{◌≡◌, refl}
+use borrow.Author.Rules.{rules}
+use Rattle.std.specs.Prelude.{Err}
 use Rattle.rules.specs.Relative.{relative_at, to_relative}
-use Rattle.rules.specs.Answers.{check_records}
-use Rattle.laws.proofs.Records.{records-length}
-use Rattle.laws.proofs.SecondLevel.{each-length}
-use Rattle.laws.proofs.Refusals.{held}
-use Rattle.relative.proofs.Translations.{turned_away_lem, translated, relating-refused, relating-short, relating_enough}
+use Rattle.relative.proofs.Translations.{turned_away_lem, translated, base_kept, relating-refused, relating-short, relating_enough}
 use Rattle.relative.proofs.to_relative.Goals as goal
 
-pub write_all_relative-requires : goal.write_all_relative-requires
-unfolding most
-write_all_relative-requires c =
-    let was_accepted : check_records Base c.args.base.now ≡ Accepted c.in-Accepted.n = sym c.check_base-checked.ensures ∙ c.in-Accepted.is in
-    let h = held Base _ _ (was_accepted) in omega (arith, h.counted, h.fines.few)
-
-pub returns-else-out-n : goal.returns-else-out-n
-unfolding to_relative
-returns-else-out-n c =
-    let was_accepted : check_records Base c.args.base.now ≡ Accepted c.in-Accepted.n = sym c.check_base-checked.ensures ∙ c.in-Accepted.is in
-    let s = c.args.base.now in
-    translated (relating_enough _ _ (was_accepted) c.if-out-n.false)
-    (sym (held Base s _ (was_accepted)).counted ∙ sym (records-length s) ∙ sym (each-length relative_at 1 (records s))) c.write_all_relative.ensures
-
-pub overflow_mul-n : goal.overflow_mul-n
-overflow_mul-n c =
-    let was_accepted : check_records Base c.args.base.now ≡ Accepted c.in-Accepted.n = sym c.check_base-checked.ensures ∙ c.in-Accepted.is in
-    omega (arith, (held Base _ _ (was_accepted)).counted)
+pub returns-in_err-n : goal.returns-in_err-n
+returns-in_err-n c =
+    let e : c.from_residual.result ≡ Err c.in_err-n.field-0.0 = search rules in
+    turned_away_lem (relating-refused _ _ c.in_err-n.ensures) e
 
 pub returns-then-out-n : goal.returns-then-out-n
-returns-then-out-n c =
-    let was_accepted : check_records Base c.args.base.now ≡ Accepted c.in-Accepted.n = sym c.check_base-checked.ensures ∙ c.in-Accepted.is in
-    turned_away_lem (relating-short _ _ (was_accepted) c.if-out-n.true)
+returns-then-out-n c = turned_away_lem (relating-short _ _ c.in_ok-n.ensures c.if-out-n.true) refl
 
-pub returns-in-Refused : goal.returns-in-Refused
-returns-in-Refused c = turned_away_lem (relating-refused _ _ (sym c.check_base-checked.ensures ∙ c.in-Refused.is))
+pub returns : goal.returns
+unfolding to_relative
+returns c =
+    let a = c.in_ok-n.ensures in
+    translated _ _ (relating_enough _ _ a c.if-out-n.false) (base_kept a).counted (c.put_turned.ensures relative_at (λ i r q a b d e p. search rules))

@@ -1,16 +1,12 @@
 use Rattle.rules.specs.Refusals.{verdict_of}
 use Rattle.states.specs.States.{with_replies}
-use Rattle.states.proofs.States.{when_at_lem, when_zero}
+use Rattle.states.proofs.States.{first_bad}
 use Rattle.states.proofs.with_replies.Goals as goal
 
-pub returns-then-bad-ne0 : goal.returns-then-bad-ne0
+pub returns-in-Some : goal.returns-in-Some
 unfolding with_replies verdict_of
-returns-then-bad-ne0 c = rw (c.in-Accepted.is, when_at_lem _ _ c.bad_reply-bad.ensures c.if-bad-ne0.true)
+returns-in-Some c = rw (c.in_ok-n.was, first_bad, ← c.bad_reply.ensures, c.in-Some.is)
 
-pub returns-in-Refused : goal.returns-in-Refused
-unfolding with_replies
-returns-in-Refused c = rw c.in-Refused.is
-
-pub returns-else-bad-ne0 : goal.returns-else-bad-ne0
+pub returns-in-None : goal.returns-in-None
 unfolding with_replies verdict_of
-returns-else-bad-ne0 c = rw (c.in-Accepted.is, when_zero _ _ c.bad_reply-bad.ensures c.if-bad-ne0.false)
+returns-in-None c = rw (c.in_ok-n.was, first_bad, ← c.bad_reply.ensures, c.in-None.is)

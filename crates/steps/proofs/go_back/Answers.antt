@@ -1,9 +1,10 @@
 use mathlib.Core.Path.{sym, ◌∙◌}
-use Rattle.steps.proofs.Steps.{ends, returns as goes_back}
+use Rattle.steps.proofs.Steps.{leaves, stays}
 use Rattle.steps.proofs.go_back.Goals as goal
 
-pub returns-then-not-names : goal.returns-then-not-names
-returns-then-not-names c = λ replies asked log. ends _ _ replies asked log (rw c.top-t.ensures at (sym c.names.ensures ∙ c.if-not-names.true))
+pub returns-in-Some : goal.returns-in-Some
+returns-in-Some c = λ replies asked log.
+    rw (c.pop.ensures, c.from-in-Some.ensures) (leaves _ _ replies asked log (sym c.top.ensures ∙ c.in-Some.is) (rw c.from.ensures at (sym c.names.ensures ∙ c.if-names.true)))
 
-pub returns : goal.returns
-returns c = λ replies asked log. rw (c.top-t.ensures, c.pop-handed.ensures) (goes_back _ _ replies asked log (rw c.top-t.ensures at (sym c.names.ensures ∙ c.if-not-names.false)))
+pub returns-in_default : goal.returns-in_default
+returns-in_default c = λ replies asked log. stays _ _ replies asked log (sym c.top.ensures ∙ c.in-Some.is) (rw c.from.ensures at (sym c.names.ensures ∙ c.if-names.false))

@@ -1,10 +1,7 @@
 -- None of the records before k is one.
-use Prim.Native.Nat.{ℕ, suc, ◌-◌, ◌≤◌, ◌<◌}
+use Prim.Native.Nat.{ℕ, suc, ◌≤◌, ◌<◌}
 use Rattle.ways.specs.Ways.{Plain}
 use Rattle.ways.proofs.any_bracket.Given as goal
 
 abbrev pub invariant-loop-k : goal.invariant-loop-k
 invariant-loop-k l = (j : ℕ) → l.from ≤ j → j < l.k → Plain l.s (suc j)
-
-abbrev pub decreases-loop-k : goal.decreases-loop-k
-decreases-loop-k l = l.to - l.k

@@ -1,11 +1,8 @@
 -- The records behind the first `from` up to number k have their places.
 use mathlib.Core.Path.{◌≡◌}
-use Prim.Native.Nat.{◌-◌, ◌≤◌, ◌<◌}
+use Prim.Native.Nat.{◌<◌}
 use Rattle.ways.proofs.Ways.{Put}
 use Rattle.ways.proofs.put_ways.Given as goal
 
 abbrev pub invariant-loop-k : goal.invariant-loop-k
-invariant-loop-k l = (l.from ≤ l.k) × (l.to < l.k → l.k ≡ l.from) × Put l.s l.from l.k l.initial.t l.t
-
-abbrev pub decreases-loop-k : goal.decreases-loop-k
-decreases-loop-k l = l.to - l.k
+invariant-loop-k l = (l.k-end < l.k → l.k ≡ l.from) × Put l.s l.from l.k l.initial.t l.t

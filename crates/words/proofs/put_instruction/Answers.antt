@@ -1,19 +1,17 @@
-use native.Mathlib.Omega.{arith}
-use Rattle.print.proofs.Printing.{print_sizes, print_more, print_as}
-use Rattle.words.proofs.Instructions.{instruction-jump, instruction_other}
+use mathlib.Core.Path.{◌≡◌}
+use Prim.Native.Nat.{ℕ}
+use mathlib.Core.List.{◌++◌}
+use borrow.Author.Tests.{ne_eqb}
+use Rattle.rules.specs.Record.{Rec}
+use Rattle.rules.specs.Instruction.{act_of}
+use Rattle.print.proofs.Printing.{print_more, print_as}
+use Rattle.words.specs.Text.{action, sign, instruction}
 use Rattle.words.proofs.put_instruction.Goals as goal
 
-pub returns-then-kind-eq4 : goal.returns-then-kind-eq4
-returns-then-kind-eq4 c = print_as (instruction-jump _ _ _ c.if-kind-eq4.true) c.put_form.ensures
-
-pub slice_bounds-put_action-count : goal.slice_bounds-put_action-count
-slice_bounds-put_action-count c = omega (arith, print_sizes c.put_sign-at.ensures)
-
-pub slice_bounds-put_action-start : goal.slice_bounds-put_action-start
-slice_bounds-put_action-start c = omega (arith, print_sizes c.put_sign-at.ensures)
-
-pub overflow_add-result : goal.overflow_add-result
-overflow_add-result c = omega (arith, print_sizes (print_more c.put_sign-at.ensures c.put_action.ensures))
+with_sign : (r : Rec) {x y : ℕ} → x ≡ r.x → y ≡ r.y → ¬ (r.kind ≡ 4) → instruction r ≡ sign r.kind ++ action (act_of x y)
+unfolding instruction
+with_sign r x y h = rw (x, y, ne_eqb r.kind 4 h)
 
 pub returns : goal.returns
-returns c = print_as (instruction_other _ _ _ c.if-kind-eq4.false) (print_more c.put_sign-at.ensures c.put_action.ensures)
+returns c =
+    print_as (with_sign _ c.from-x.ensures c.from.ensures c.if-r-eq4.false) (print_more c.put_sign-at.ensures c.put_action.ensures)

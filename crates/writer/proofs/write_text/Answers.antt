@@ -1,32 +1,27 @@
 use mathlib.Core.Path.{sym, ◌∙◌}
-use Rattle.text.specs.declared.TextRefusal.TheVariants.{Name, Earlier}
-use Rattle.writer.proofs.Whole.{refuses, equally, unchecked, fits, ragged, too_many, nameless-at, all_named}
+use Rattle.text.specs.declared.TextRefusal.TheVariants.{Name}
+use Rattle.writer.proofs.Whole.{refuses, passes_on, equally, unchecked, fits, bad_list, nameless-at, all_named}
 use Rattle.writer.proofs.write_text.Goals as goal
 
-pub returns-then-length-ne0 : goal.returns-then-length-ne0
-returns-then-length-ne0 c =
+pub returns-in_err-check_records : goal.returns-in_err-check_records
+returns-in_err-check_records c =
     let a = c.args in
-    refuses (Name 0) (ragged a.routine.now a.names.now a.text.now (sym c.in-Accepted.is ∙ c.check_records-checked.ensures) c.if-length-ne0.true)
+    passes_on c.from_residual.result c.from_residual.ensures.1 (unchecked a.routine.now a.names.now a.text.now _ c.in_err-check_records.ensures)
 
-pub returns-then-length-gt999 : goal.returns-then-length-gt999
-returns-then-length-gt999 c =
+pub returns-then-list_fault : goal.returns-then-list_fault
+returns-then-list_fault c =
     let a = c.args in
-    refuses (Name 0) (too_many a.routine.now a.names.now a.text.now (sym c.in-Accepted.is ∙ c.check_records-checked.ensures) c.if-length-ne0.false c.if-length-gt999.true)
-
-pub returns-then-p-ne0 : goal.returns-then-p-ne0
-returns-then-p-ne0 c =
-    let a = c.args in let p = c.first_nameless-p in
-    refuses (Name p.result) (nameless-at a.routine.now a.names.now a.text.now (sym c.in-Accepted.is ∙ c.check_records-checked.ensures) c.if-length-ne0.false c.if-length-gt999.false p.result p.ensures c.if-p-ne0.true)
+    refuses (Name 0) (bad_list a.routine.now a.names.now a.text.now c.in_ok-check_records.ensures (sym c.list_fault.ensures ∙ c.if-list_fault.true))
 
 pub show-requires : goal.show-requires
-show-requires c = let a = c.args in fits a.routine.now a.names.now a.text.now (sym c.in-Accepted.is ∙ c.check_records-checked.ensures)
+show-requires c = let a = c.args in fits a.routine.now a.names.now a.text.now c.in_ok-check_records.ensures
 
-pub returns-in-Refused : goal.returns-in-Refused
-returns-in-Refused c =
-    let a = c.args in let r = c.in-Refused.refusal in
-    refuses (Earlier r) (unchecked a.routine.now a.names.now a.text.now r (sym c.in-Refused.is ∙ c.check_records-checked.ensures))
+pub returns-in-Some : goal.returns-in-Some
+returns-in-Some c =
+    let a = c.args in
+    refuses (Name c.in-Some.p) (nameless-at a.routine.now a.names.now a.text.now c.in_ok-check_records.ensures (sym c.list_fault.ensures ∙ c.if-list_fault.false) c.in-Some.p c.in-Some.ensures)
 
-pub returns-else-p-ne0 : goal.returns-else-p-ne0
-returns-else-p-ne0 c =
-    let a = c.args in let p = c.first_nameless-p in
-    equally (all_named a.routine.now a.names.now a.text.now (sym c.in-Accepted.is ∙ c.check_records-checked.ensures) c.if-length-ne0.false c.if-length-gt999.false p.result p.ensures c.if-p-ne0.false) c.show.ensures
+pub returns-in-None : goal.returns-in-None
+returns-in-None c =
+    let a = c.args in
+    equally (all_named a.routine.now a.names.now a.text.now c.in_ok-check_records.ensures (sym c.list_fault.ensures ∙ c.if-list_fault.false) c.in-None.ensures) c.show.ensures

@@ -1,5 +1,5 @@
 use Rattle.std.proofs.Common.{◌≤◌, length}
 use Rattle.vectors.proofs.notation.expand.Given as goal
 
-abbrev pub invariant-loop-turn : goal.invariant-loop-turn
-invariant-loop-turn l = l.at ≤ length l.out
+abbrev pub invariant-loop-record : goal.invariant-loop-record
+invariant-loop-record l = l.at ≤ length l.out

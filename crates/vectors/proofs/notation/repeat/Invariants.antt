@@ -1,5 +1,5 @@
 use Rattle.std.proofs.Common.{◌≤◌, length}
 use Rattle.vectors.proofs.notation.repeat.Given as goal
 
-abbrev pub invariant-loop-turn : goal.invariant-loop-turn
-invariant-loop-turn l = l.at ≤ length l.out
+abbrev pub invariant-loop : goal.invariant-loop
+invariant-loop l = l.at ≤ length l.out

@@ -1,6 +1,0 @@
-use mathlib.Core.Path.{ap, ◌∙◌}
-use Rattle.told.specs.Numbers.{verdict_told}
-use Rattle.abi.proofs.qh_check_routine.Goals as goal
-
-pub returns : goal.returns
-returns c = c.tell_verdict.ensures ∙ ap verdict_told c.check_routine.ensures

@@ -1,8 +1,0 @@
-use mathlib.Core.Path.{ap, ◌∙◌}
-use Rattle.told.specs.Numbers.{verdict_told}
-use Rattle.abi.proofs.qh_list.Goals as goal
-
-pub returns : goal.returns
-returns c =
-    let e = c.list.ensures in
-    record { answers = c.tell_verdict.ensures ∙ ap verdict_told e.answers; output = e.output }

@@ -1,4 +1,0 @@
-use Rattle.machine.proofs.fresh_at.Goals as goal
-
-pub returns : goal.returns
-returns c = rw c.fresh-stack.ensures
