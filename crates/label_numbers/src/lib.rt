@@ -13,7 +13,7 @@ use names::name_at;
 use runs::{byte_at, in_sort};
 use text::Sort;
 
-// The name at q is this one. It is not measured first, since most labels differ.
+// The name at q is this one. How long the name at q is, is not asked first, since most labels differ.
 fn is_same(s: &[u8], name: &[u8], q: usize) -> bool
     requires { All Named name.now × (length name.now ≤ 16) }
     ensures { result ≡ same name.now (name_at s.now q) }

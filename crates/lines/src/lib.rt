@@ -20,7 +20,7 @@ fn put_line(i: usize, r: Record, text: &mut [u8]) -> usize
     at + put_word(b"\n", &mut text[at..])
 }
 
-// One line per base record, each into the unwritten rest of the text.
+// One line per base record, each into the unwritten rest of the text: a loop of its own, as `print::put_form` says.
 fn put_lines(base: &[u8], text: &mut [u8]) -> usize
     ensures { Printed (lines 1 (records base.now)) text.old text.new result }
 {

@@ -24,7 +24,7 @@ impl fmt::Display for Fault {
 }
 
 // The first bytes of an input, as many as the buffer has room for, and how many more come behind them. Those are read and let go: of an
-// input that is too long only its length matters.
+// input that is too long only its length matters. The casts are from `usize` to as wide a number, and back within the buffer.
 fn read<'a>(input: &mut impl Read, buffer: &'a mut [u8]) -> io::Result<(&'a [u8], u64)> {
     let room = buffer.len() as u64;
     let came = io::copy(&mut input.by_ref().take(room), &mut &mut *buffer)?;

@@ -24,8 +24,8 @@ fn write_base(routine: &[u8], out: &mut [u8], work: &mut [u8]) -> usize
     expand_conditionals(&work[..third], out)
 }
 
-// The base of a routine, in the first 8 bytes a record of the output; the working buffer is then all zero. A refusal, 1 to 8, leaves
-// both as they were.
+// The base of a routine, in the first 8 bytes a record of the output; the working buffer is then all zero. A refusal, the
+// routine's own or 8, leaves both as they were.
 pub fn convert(routine: &[u8], out: &mut [u8], work: &mut [u8]) -> Verdict
     ensures { Converted routine.now out.old work.old result out.new work.new }
 {

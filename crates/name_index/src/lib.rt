@@ -32,7 +32,7 @@ fn part_of(name: &[u8]) -> usize
     h
 }
 
-// Entry number k of a table, from 0; 0 where there is none.
+// Entry number k of a table, from 0; 0 where there is none, as the tables have it: no entry has number 0.
 fn number_in(t: &[u16], k: usize) -> usize
     ensures { result ≡ get_or t.now k 0 }
 {
@@ -67,8 +67,8 @@ pub fn indexed_action(l: &[u8], first: &[u16], next: &[u16], s: &[u8], at: usize
 }
 
 // The list's index into two tables: the entries from the last to the first, each in front of those with its number. Says whether the
-// tables have room for it; where they have none, they are left as they are.
-// An entry's number is at most 999, which is proved at the cast.
+// tables have room for it, before anything is written; where they have none, they are left as they are. An entry's number is at most 999,
+// which is proved at the cast.
 pub fn fill_index(l: &[u8], first: &mut [u16], next: &mut [u16]) -> bool
     ensures { Fills l.now first.old next.old result first.new next.new }
 {

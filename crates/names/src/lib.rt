@@ -1,4 +1,5 @@
-// Names and numbers of a text: whether an entry of the lent list is a proper name, how long it is, and the number that digits are.
+// Names and numbers of a text: whether an entry of the lent list is a proper name, the name itself, and the number that digits
+// are. Where there is no such entry a function is left early: with one test more in each line below it reads no better.
 #![tactic(auto)]
 
 ghost use Rattle.std.specs.Prelude.{◌≡◌};

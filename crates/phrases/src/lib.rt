@@ -71,7 +71,7 @@ fn put_joint(i: usize, text: &mut [u8]) -> usize
     if i <= 1 { 0 } else { put_word(b"; ", text) }
 }
 
-// The text of a routine, each instruction into the unwritten rest.
+// The text of a routine, each instruction into the unwritten rest: a loop of its own, as `print::put_form` says.
 pub fn put_text(routine: &[u8], names: &[u8], text: &mut [u8]) -> usize
     ensures { Printed (text_of (entries names.now) (records routine.now)) text.old text.new result }
 {

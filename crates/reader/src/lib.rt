@@ -104,7 +104,7 @@ fn numbers(
     }
 }
 
-// The record of a form: form 17, `!`, is ##0.
+// The record of a form: form 17, `!`, is ##0. A form's number has room in a kind, which is proved at the cast.
 #[tactic(auto, unfolding(text::specs::Reading::form_record))]
 fn record_of(form: usize, x: u16, y: u16) -> Record
     requires { form ≤ 17 }

@@ -9,8 +9,8 @@ use refusals::number_of;
 use rules::{Notation, Record, Verdict};
 use std::io;
 
-// What was answered, to the end of the line. `vectors` has the same: a crate for both would rest on what is assumed of
-// printing. Two numbers and a word have at most 50 bytes.
+// What was answered, to the end of the line. `vectors` has the like: a crate for both would rest on what is assumed of printing. Two
+// numbers and a word have at most 50 bytes.
 fn print_answer(rt: &impl Print, verdict: Verdict) -> io::Result<()> {
     let mut line = [0u8; 50];
     let n = show::put_answer(verdict, &mut line);
@@ -51,7 +51,7 @@ fn long_files(rt: &impl Print, notation: Notation, bytes: usize) -> io::Result<(
     print_answer(rt, check_records(notation, &s[..bytes + 8]))
 }
 
-// The answer to one record, as a number: 0 where it is accepted, else the refusal's.
+// The answer to one record, as the number that is printed: 0 where it is accepted, else the refusal's.
 fn one_record(rt: &impl Print, notation: Notation, record: Record) -> io::Result<()> {
     let mut s = [0u8; 8];
     put_record(&mut s, record);

@@ -8,6 +8,7 @@ use refusals::{number_of, place_of, status_number};
 use rules::{Ran, Stack, State, Verdict};
 use text::{TextRefusal, TextVerdict};
 
+// C has no Option: 0 says that there is no refusal, no place, and in `QhRan` no status.
 #[repr(C)]
 #[derive(Clone, Copy)]
 pub struct QhVerdict {

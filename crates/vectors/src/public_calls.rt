@@ -97,7 +97,7 @@ fn answer(judged: Judged, s: &[u8], out: &mut [u8]) -> Verdict {
     }
 }
 
-// The first n records of the output, of which nothing is looked at where they are longer than a line.
+// The first n records of the output; none where there are more than 64, which would be a long line.
 fn written(out: &[u8], n: usize) -> &[u8] {
     if n > 64 { &[] } else { part(out, 0, 8 * n) }
 }
@@ -139,7 +139,7 @@ pub fn run(rt: &impl Print, s: &[u8], replies: &[u8]) -> io::Result<()> {
     print_ran(rt, replies, ran, &log)
 }
 
-// The same of the base that the routine becomes.
+// The same of the base that the routine becomes, where that has 64 records at most: a longer one is run as if it were empty.
 pub fn run_base_of(rt: &impl Print, s: &[u8], replies: &[u8]) -> io::Result<()> {
     let mut base = [0u8; 32768];
     let mut work = [0u8; 32768];
@@ -153,8 +153,8 @@ pub fn run_base_of(rt: &impl Print, s: &[u8], replies: &[u8]) -> io::Result<()> 
     Ok(())
 }
 
-// What is found of the numbers in a record, by the table that has it or among the labels. One that finds nothing answers 0, and a call of
-// no number is looked up as an end.
+// What is found of the numbers in a record, by the table that has it or among the labels. One that finds nothing prints 0, as the
+// stored output has it, and a call of no number is looked up as an end.
 fn found(sought: Sought, s: &[u8], of: Record) -> usize {
     let mut t = [0u16; 513];
     match sought {

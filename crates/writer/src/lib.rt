@@ -37,7 +37,8 @@ fn first_nameless(routine: &[u8], names: &[u8]) -> Option<usize>
     None
 }
 
-// The text where it has room, by way of a page that has room for every text, so that a refused call writes nothing.
+// The text where it has room, by way of a page that has room for every text, so that a refused call writes nothing. `listing` says why
+// each has a function of its own.
 fn show(routine: &[u8], names: &[u8], text: &mut [u8]) -> TextVerdict
     requires { length (text_written routine.now names.now) ≤ 10752 }
     ensures { Answered (writes 0 (text_written routine.now names.now) text.old) (text_written routine.now names.now) text.old result text.new }
