@@ -45,13 +45,13 @@ fn write_chain(places: &[u16], j: usize, out: &mut [u8]) -> usize
 
 // The file, and where its jumps lead.
 #[derive(Drop)]
-pub struct Calls<'a> {
+pub struct Calls<'a, 't> {
     file: File<'a>,
-    places: [u16; 4097],
-    ghost led: { Leading Stage.Calls file.s.now places },
+    places: &'t [u16],
+    ghost led: { Leading Stage.Calls file.s.now places.now },
 }
 
-impl<'a> Expansion<'a> for Calls<'a> {
+impl<'a, 't> Expansion<'a> for Calls<'a, 't> {
     ghost stage = { Stage.Calls };
 
     ghost given = { λ it. it.file.s.now };
@@ -70,10 +70,10 @@ impl<'a> Expansion<'a> for Calls<'a> {
             15 => put_pair(
                 out,
                 record(1, 1001, (i + 1) as u16),
-                look(&self.places, usize::from(x)),
+                look(self.places, usize::from(x)),
             ),
-            16 => write_chain(&self.places, s.len() / 8, out),
-            _ => put_kept(s, i, &self.places, out),
+            16 => write_chain(self.places, s.len() / 8, out),
+            _ => put_kept(s, i, self.places, out),
         }
     }
 }
@@ -86,12 +86,12 @@ pub fn expand_calls(s: &[u8], out: &mut [u8]) -> usize
     if 4096 < s.len() / 8 {
         return 0;
     }
+    let mut places = [0; 4097];
+    fill_places(Stage::Calls, s, &mut places);
     let file = File { s };
-    // The tables are in the stage and filled there: handed over, they would be copied.
-    let mut made = Calls {
+    let made = Calls {
         file,
-        places: [0; 4097],
+        places: &places,
     };
-    fill_places(Stage::Calls, s, &mut made.places);
     write_groups(&made, out)
 }

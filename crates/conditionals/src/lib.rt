@@ -18,23 +18,23 @@ use tables::{fill_stops, look};
 
 // The file, where its jumps lead, and of its conditionals where each arm ends.
 #[derive(Drop)]
-pub struct Conditionals<'a> {
+pub struct Conditionals<'a, 't> {
     file: File<'a>,
-    places: [u16; 4097],
-    stops: [u16; 4097],
-    ghost led: { Leading Stage.Conditionals file.s.now places },
-    ghost stopped: { Stopping conditional file.s.now stops },
+    places: &'t [u16],
+    stops: &'t [u16],
+    ghost led: { Leading Stage.Conditionals file.s.now places.now },
+    ghost stopped: { Stopping conditional file.s.now stops.now },
 }
 
-impl<'a> Conditionals<'a> {
+impl<'a, 't> Conditionals<'a, 't> {
     fn past_stop(&self, i: usize) -> u16
-        ensures { result ≡ get_or self.now.places (past (get_or self.now.stops i 0)) 0 }
+        ensures { result ≡ get_or self.now.places.now (past (get_or self.now.stops.now i 0)) 0 }
     {
-        look_past(&self.places, look(&self.stops, i))
+        look_past(self.places, look(self.stops, i))
     }
 }
 
-impl<'a> Expansion<'a> for Conditionals<'a> {
+impl<'a, 't> Expansion<'a> for Conditionals<'a, 't> {
     ghost stage = { Stage.Conditionals };
 
     ghost given = { λ it. it.file.s.now };
@@ -52,8 +52,8 @@ impl<'a> Expansion<'a> for Conditionals<'a> {
             8 => put_pair(out, Record { kind: 3, x, y }, self.past_stop(i)),
             9 => put_pair(out, Record { kind: 2, x, y }, self.past_stop(i)),
             10 => put_record(out, jump(self.past_stop(i))),
-            11 => put_record(out, jump(look(&self.places, i + 1))),
-            _ => put_kept(self.file.s, i, &self.places, out),
+            11 => put_record(out, jump(look(self.places, i + 1))),
+            _ => put_kept(self.file.s, i, self.places, out),
         }
     }
 }
@@ -66,14 +66,15 @@ pub fn expand_conditionals(s: &[u8], out: &mut [u8]) -> usize
     if 4096 < s.len() / 8 {
         return 0;
     }
+    let mut places = [0; 4097];
+    fill_places(Stage::Conditionals, s, &mut places);
+    let mut stops = [0; 4097];
+    fill_stops(Sort::Conditional, s, &mut stops);
     let file = File { s };
-    // The tables are in the stage and filled there: handed over, they would be copied.
-    let mut made = Conditionals {
+    let made = Conditionals {
         file,
-        places: [0; 4097],
-        stops: [0; 4097],
+        places: &places,
+        stops: &stops,
     };
-    fill_places(Stage::Conditionals, s, &mut made.places);
-    fill_stops(Sort::Conditional, s, &mut made.stops);
     write_groups(&made, out)
 }

@@ -18,31 +18,31 @@ use tables::{fill_headers, fill_stops, look};
 
 // The file, where its jumps lead, and of its loops the ends and the headers.
 #[derive(Drop)]
-pub struct Loops<'a> {
+pub struct Loops<'a, 't> {
     file: File<'a>,
-    places: [u16; 4097],
-    ends: [u16; 4097],
-    headers: [u16; 4097],
-    ghost led: { Leading Stage.Loops file.s.now places },
-    ghost stopped: { Stopping loop file.s.now ends },
-    ghost opened: { Opening file.s.now headers },
+    places: &'t [u16],
+    ends: &'t [u16],
+    headers: &'t [u16],
+    ghost led: { Leading Stage.Loops file.s.now places.now },
+    ghost stopped: { Stopping loop file.s.now ends.now },
+    ghost opened: { Opening file.s.now headers.now },
 }
 
-impl<'a> Loops<'a> {
+impl<'a, 't> Loops<'a, 't> {
     fn past_end(&self, i: usize) -> u16
-        ensures { result ≡ get_or self.now.places (past (get_or self.now.ends i 0)) 0 }
+        ensures { result ≡ get_or self.now.places.now (past (get_or self.now.ends.now i 0)) 0 }
     {
-        look_past(&self.places, look(&self.ends, i))
+        look_past(self.places, look(self.ends, i))
     }
 
     fn header(&self, i: usize) -> u16
-        ensures { result ≡ get_or self.now.places (get_or self.now.headers i 0) 0 }
+        ensures { result ≡ get_or self.now.places.now (get_or self.now.headers.now i 0) 0 }
     {
-        look(&self.places, usize::from(look(&self.headers, i)))
+        look(self.places, usize::from(look(self.headers, i)))
     }
 }
 
-impl<'a> Expansion<'a> for Loops<'a> {
+impl<'a, 't> Expansion<'a> for Loops<'a, 't> {
     ghost stage = { Stage.Loops };
 
     ghost given = { λ it. it.file.s.now };
@@ -59,7 +59,7 @@ impl<'a> Expansion<'a> for Loops<'a> {
             12 => put_pair(out, Record { kind: 3, x, y }, self.past_end(i)),
             13 => put_pair(out, Record { kind: 2, x, y }, self.past_end(i)),
             14 => put_record(out, jump(self.header(i))),
-            _ => put_kept(self.file.s, i, &self.places, out),
+            _ => put_kept(self.file.s, i, self.places, out),
         }
     }
 }
@@ -72,16 +72,18 @@ pub fn expand_loops(s: &[u8], out: &mut [u8]) -> usize
     if 4096 < s.len() / 8 {
         return 0;
     }
+    let mut places = [0; 4097];
+    fill_places(Stage::Loops, s, &mut places);
+    let mut ends = [0; 4097];
+    fill_stops(Sort::Loop, s, &mut ends);
+    let mut headers = [0; 4097];
+    fill_headers(s, &mut headers);
     let file = File { s };
-    // The tables are in the stage and filled there: handed over, they would be copied.
-    let mut made = Loops {
+    let made = Loops {
         file,
-        places: [0; 4097],
-        ends: [0; 4097],
-        headers: [0; 4097],
+        places: &places,
+        ends: &ends,
+        headers: &headers,
     };
-    fill_places(Stage::Loops, s, &mut made.places);
-    fill_stops(Sort::Loop, s, &mut made.ends);
-    fill_headers(s, &mut made.headers);
     write_groups(&made, out)
 }

@@ -12,7 +12,9 @@ use rules::{Refusal, Verdict};
 use shape::check_routine;
 use stages::{expand_calls, expand_conditionals, expand_labels, expand_loops};
 
-// Every stage, in order: from the routine to the working buffer, to the output, back to the working buffer, and to the output.
+// Every stage, in order: from the routine to the working buffer, to the output, back to the working buffer, and to the output. Out of
+// line, so that the stages' tables are not on the machine stack while the checks, which call each other as deep as items nest, run.
+#[inline(never)]
 fn write_base(routine: &[u8], out: &mut [u8], work: &mut [u8]) -> usize
     requires routine_value { check_routine routine.now ≡ Ok (count routine.now) }
     requires routine_in_bounds { (8 * base_count routine.now ≤ length out.old) × (8 * base_count routine.now ≤ length work.old) }

@@ -10,10 +10,10 @@ ghost use Rattle.text.specs.Writing.{label_name, written_sign, form_of, written,
 ghost use Rattle.print.specs.Printing.{Printed};
 
 use names::name_of;
-use print::{put_form, put_number, put_word};
+use print::{put_byte, put_form, put_number, put_word};
 use records::record_at;
 use rules::Record;
-use signs::sign;
+use signs::signs_of;
 
 // A label: L and its number.
 #[tactic(auto, using(crate::proofs::Signs::same_label))]
@@ -33,7 +33,7 @@ fn put_sign(names: &[u8], p: u8, r: Record, text: &mut [u8]) -> usize
         b'k' => put_number(usize::from(r.x), text),
         b's' => put_label(r.x, text),
         b't' => put_label(r.y, text),
-        _ => put_word(&[p], text),
+        _ => put_byte(p, text),
     }
 }
 
@@ -48,27 +48,28 @@ fn form_of(r: Record) -> usize
     }
 }
 
-// The instruction of a record, each sign of its form into the unwritten rest. No form has more than eight signs.
+// The instruction of a record, each sign of its form into the unwritten rest.
 fn put_instruction(names: &[u8], r: Record, text: &mut [u8]) -> usize
     ensures { Printed (written (entries names.now) r) text.old text.new result }
 {
-    let form = form_of(r);
+    let form = signs_of(form_of(r));
     let mut at = 0;
-    for j in 0..8 {
-        let p = sign(form, j);
-        if p == 0 {
-            return at;
-        }
-        at += put_sign(names, p, r, &mut text[at..]);
+    for p in form {
+        at += put_sign(names, *p, r, &mut text[at..]);
     }
     at
 }
 
-// What stands in front of instruction i: nothing in front of the first.
+// What stands in front of instruction i: nothing in front of the first. A form, put out byte by byte: as a word it is copied by a call.
+#[tactic(auto, unfolding(print::specs::Text::filled, print::specs::Text::filled_sign))]
 fn put_joint(i: usize, text: &mut [u8]) -> usize
     ensures { Printed (cond (leb i 1) [] (ascii "; ")) text.old text.new result }
 {
-    if i <= 1 { 0 } else { put_word(b"; ", text) }
+    if i <= 1 {
+        0
+    } else {
+        put_form(b"; ", 0, 0, text)
+    }
 }
 
 // The text of a routine, each instruction into the unwritten rest: a loop of its own, as `print::put_form` says.

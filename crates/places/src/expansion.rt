@@ -33,8 +33,8 @@ pub fn write_groups<'a, E: Expansion<'a>>(stage: &E, out: &mut [u8]) -> usize
 {
     let n = stage.file().s.len() / 8;
     let mut at = 0;
-    for i in 1..=n {
-        at += stage.write_group(i, &mut out[at..]);
+    for i in 0..n {
+        at += stage.write_group(i + 1, &mut out[at..]);
     }
     at
 }

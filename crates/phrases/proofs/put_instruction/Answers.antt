@@ -1,15 +1,14 @@
+use mathlib.Core.Path.{ap, ◌∙◌}
 use native.Mathlib.Omega.{arith}
-use Rattle.phrases.proofs.Signs.{signing, sign-turn, sign-end, sign-last}
+use Rattle.text.specs.Forms.{signs_of}
+use Rattle.phrases.proofs.Signs.{signs_none, signs_turn, signs_end}
 use Rattle.phrases.proofs.put_instruction.Goals as goal
 
-pub loop-j-init : goal.loop-j-init
-loop-j-init c = signing _ _ _ _
+pub loop-p-init : goal.loop-p-init
+loop-p-init c = signs_none _ _ _
 
-pub returns-then-p-eq0 : goal.returns-then-p-eq0
-returns-then-p-eq0 c = sign-end _ _ _ _ c.loop-j.invariant c.form_of-form.ensures _ c.sign-p.ensures c.if-p-eq0.true
-
-pub loop-j-preserved : goal.loop-j-preserved
-loop-j-preserved c = sign-turn _ _ _ _ c.loop-j.invariant _ c.sign-p.ensures c.if-p-eq0.false c.put_sign-at.ensures
+pub loop-p-preserved : goal.loop-p-preserved
+loop-p-preserved c = signs_turn _ _ _ _ c.loop-p.invariant c.loop-p-test.true c.put_sign-at.ensures
 
 pub returns : goal.returns
-returns c = sign-last _ _ _ _ c.loop-j.invariant c.form_of-form.ensures (omega arith)
+returns c = signs_end _ _ _ _ c.loop-p.invariant (c.signs_of-form.ensures ∙ ap signs_of c.form_of.ensures) (omega arith)

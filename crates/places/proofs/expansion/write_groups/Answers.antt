@@ -9,13 +9,7 @@ pub loop-i-init : goal.loop-i-init
 loop-i-init g c = none_written _ _ _
 
 pub loop-i-preserved : goal.loop-i-preserved
-loop-i-preserved g c = one_written _ _ c.loop-i.i (omega arith) (omega (arith, ap count c.file.ensures)) c.loop-i.invariant c.write_group-at.ensures
+loop-i-preserved g c = one_written _ _ (c.loop-i.i + 1) (omega arith) (omega (arith, ap count c.file.ensures)) c.loop-i.invariant c.write_group-at.ensures
 
 pub returns : goal.returns
-returns g c = all_written _ _ c.loop-i.i (omega (arith, ap count c.file.ensures)) (omega (arith, ap count c.file.ensures)) c.loop-i.invariant
-
-pub returns-2 : goal.returns-2
-returns-2 g c =
-    let same = ap count c.file.ensures in
-    let last = one_written _ _ c.loop-i.i (omega arith) (omega (arith, same)) c.loop-i.invariant c.write_group-at.ensures in
-    all_written _ _ (c.loop-i.i + 1) (omega (arith, same)) (omega (arith, same)) last
+returns g c = all_written _ _ (c.loop-i.i + 1) (omega (arith, ap count c.file.ensures)) (omega (arith, ap count c.file.ensures)) c.loop-i.invariant
