@@ -25,7 +25,7 @@ pub extern "C" fn qh_check_routine(bytes: &[u8]) -> QhVerdict
 pub extern "C" fn qh_check_base(bytes: &[u8]) -> QhVerdict
     ensures { result ≡ verdict_told (check_records Notation.Base bytes.now) }
 {
-    checks::check_records(Notation::Base, bytes).into()
+    checks::check_base(bytes).into()
 }
 
 // The checks of a relative base.
@@ -33,7 +33,7 @@ pub extern "C" fn qh_check_base(bytes: &[u8]) -> QhVerdict
 pub extern "C" fn qh_check_relative(bytes: &[u8]) -> QhVerdict
     ensures { result ≡ verdict_told (check_records Notation.Relative bytes.now) }
 {
-    checks::check_records(Notation::Relative, bytes).into()
+    checks::check_relative(bytes).into()
 }
 
 // The base of a routine.

@@ -75,3 +75,17 @@ pub fn check_records(notation: Notation, s: &[u8]) -> Verdict
     }
     Ok(n)
 }
+
+// The checks of a base.
+pub fn check_base(s: &[u8]) -> Verdict
+    ensures { result ≡ check_records Notation.Base s.now }
+{
+    check_records(Notation::Base, s)
+}
+
+// The checks of a relative base.
+pub fn check_relative(s: &[u8]) -> Verdict
+    ensures { result ≡ check_records Notation.Relative s.now }
+{
+    check_records(Notation::Relative, s)
+}

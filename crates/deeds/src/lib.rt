@@ -68,17 +68,32 @@ pub fn deed_at(s: &[u8], places: &[u16], i: usize, next: u16) -> Deed
         // [s]: i+1.
         5 => Deed::Leap(i + 1),
         // Gotos: to the target, or end.
-        6 | 7 => Deed::Leap(place_at(places, i)),
+        6 | 7 => {
+            let target = place_at(places, i);
+            Deed::Leap(target)
+        }
         // +a{ or +a{*: on yes i+1, on no past the separator, or the end where there is none, or the loop end.
-        8 | 12 => ask(record, i + 1, place_at(places, i)),
+        8 | 12 => {
+            let past = place_at(places, i);
+            ask(record, i + 1, past)
+        }
         // -a{ and -a{* with yes and no exchanged.
-        9 | 13 => ask(record, place_at(places, i), i + 1),
+        9 | 13 => {
+            let past = place_at(places, i);
+            ask(record, past, i + 1)
+        }
         // }{: past its end.
-        10 => Deed::Leap(place_at(places, i)),
+        10 => {
+            let past = place_at(places, i);
+            Deed::Leap(past)
+        }
         // }: i+1.
         11 => Deed::Leap(i + 1),
         // *}: to the loop header.
-        14 => Deed::Leap(place_at(places, i)),
+        14 => {
+            let header = place_at(places, i);
+            Deed::Leap(header)
+        }
         // R##k: push i+1, go to k.
         15 => Deed::Change(
             Own::Push(next),

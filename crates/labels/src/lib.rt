@@ -3,7 +3,7 @@
 
 ghost use Rattle.std.specs.Prelude.{◌≡◌};
 ghost use Rattle.rules.specs.Instruction.{ops};
-ghost use Rattle.rules.specs.Numbers.{found};
+ghost use Rattle.rules.specs.Numbers.{found, or_zero};
 ghost use Rattle.rules.specs.Labels.{label_after, lost_goto};
 ghost use Rattle.rules.specs.Labels as labels;
 ghost use Rattle.labels.specs.Lost.{lost_at};
@@ -37,6 +37,14 @@ pub fn target2(s: &[u8], x: u16, y: u16) -> Option<usize>
     ensures { result ≡ labels.target2 (ops s.now) x y }
 {
     label_after(s, target(s, x)?, y)
+}
+
+// The place that a lookup found; 0 where it found none: the one place where that becomes a number, for a stage and for a step.
+#[tactic(auto, unfolding(rules::specs::Numbers::or_zero))]
+pub fn place_of(lookup: Option<usize>) -> usize
+    ensures { result ≡ or_zero lookup }
+{
+    lookup.unwrap_or(0)
 }
 
 // Record i is a goto whose target does not exist.

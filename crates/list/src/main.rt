@@ -2,6 +2,8 @@
 // end prints nothing, an output that cannot be written stays as far as it came, and each puts one line on standard error: exit status 1.
 #![tactic(auto)]
 
+ghost use Rattle.std.specs.Prelude.{IfOk, length, ◌≤◌};
+
 use rules::Refusal;
 use std::io::Read;
 use std::process::ExitCode;
@@ -25,7 +27,9 @@ impl fmt::Display for Fault {
 
 // The first bytes of an input, as many as the buffer has room for, and how many more come behind them. Those are read and let go: of an
 // input that is too long only its length matters. The casts are from `usize` to as wide a number, and back within the buffer.
-fn read<'a>(input: &mut impl Read, buffer: &'a mut [u8]) -> io::Result<(&'a [u8], u64)> {
+fn read<'a>(input: &mut impl Read, buffer: &'a mut [u8]) -> io::Result<(&'a [u8], u64)>
+    ensures { IfOk result (λ r. length r.0.now ≤ length buffer.old) }
+{
     let room = buffer.len() as u64;
     let came = io::copy(&mut input.by_ref().take(room), &mut &mut *buffer)?;
     let rest = if came < room {

@@ -3,7 +3,7 @@ ghost use Rattle.places.specs.declared.Stage.TheVariants as Stage;
 ghost use Rattle.places.specs.Groups.{staged};
 ghost use Rattle.places.specs.Writing.{Fitted};
 
-use labels::{target, target2};
+use labels::{place_of, target, target2};
 use places::{Expansion, File, write_groups};
 use records::{jump, put_record, record_at};
 
@@ -31,8 +31,8 @@ impl<'a> Expansion<'a> for Labels<'a> {
             out,
             match record.kind {
                 5 => jump((i + 1) as u16),
-                6 => jump(target(s, record.x).unwrap_or(0) as u16),
-                7 => jump(target2(s, record.x, record.y).unwrap_or(0) as u16),
+                6 => jump(place_of(target(s, record.x)) as u16),
+                7 => jump(place_of(target2(s, record.x, record.y)) as u16),
                 _ => record,
             },
         )

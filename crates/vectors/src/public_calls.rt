@@ -3,7 +3,7 @@ use crate::answers::print_ran;
 use crate::notation::print_records;
 use crate::part;
 use crate::printing::print_answer;
-use labels::{target, target2};
+use labels::{place_of, target, target2};
 use lower::convert;
 use partners::Sort;
 use rules::{Record, Verdict};
@@ -163,8 +163,8 @@ fn found(sought: Sought, s: &[u8], of: Record) -> usize {
         Sought::End | Sought::ArmEnd | Sought::Unnumbered => {
             fill_stops(Sort::Conditional, s, &mut t)
         }
-        Sought::Target => return target(s, of.x).unwrap_or(0),
-        Sought::SecondTarget => return target2(s, of.x, of.y).unwrap_or(0),
+        Sought::Target => return place_of(target(s, of.x)),
+        Sought::SecondTarget => return place_of(target2(s, of.x, of.y)),
     }
     usize::from(look(&t, usize::from(of.x)))
 }

@@ -6,7 +6,7 @@ ghost use Rattle.rules.specs.Numbers.{past};
 ghost use Rattle.ways.specs.Places.{place_at};
 ghost use Rattle.ways.specs.Ways.{near, entered, ways, Plain, Partnered};
 
-use labels::{target, target2};
+use labels::{place_of, target, target2};
 use partners::Sort;
 use records::{kind_at, record_at};
 use rules::Record;
@@ -38,8 +38,8 @@ fn place(s: &[u8], i: usize, partners: Partners) -> usize
 {
     let Record { kind, x, y } = record_at(s, i);
     match kind {
-        6 => target(s, x).unwrap_or(0),
-        7 => target2(s, x, y).unwrap_or(0),
+        6 => place_of(target(s, x)),
+        7 => place_of(target2(s, x, y)),
         8 | 9 | 10 => past_record(look(partners.stops, i)),
         12 | 13 => past_record(look(partners.ends, i)),
         14 => usize::from(look(partners.headers, i)),

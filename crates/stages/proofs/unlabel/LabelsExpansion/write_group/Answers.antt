@@ -1,10 +1,10 @@
-use mathlib.Core.Path.{◌≡◌, refl}
+use mathlib.Core.Path.{◌≡◌, refl, ap, ◌∙◌}
 use native.Mathlib.Omega.{arith}
 use mathlib.Core.List.{[], ◌∷◌}
 use Rattle.rules.specs.Instruction.{ops}
 use Rattle.laws.proofs.Records.{ops-length}
 use Rattle.laws.proofs.Fits.{target_in, target2_in}
-use Rattle.labels.proofs.Targets.{placed}
+use Rattle.rules.specs.Numbers.{or_zero}
 use Rattle.places.specs.declared.Stage.TheVariants.{Labels}
 use Rattle.places.specs.Groups.{group, labelled}
 use Rattle.places.proofs.Places.{there}
@@ -18,16 +18,16 @@ overflow_add-i c = omega (arith, there _ _ c.record_at-record.ensures (λ z. ome
 pub overflow_cast-i : goal.overflow_cast-i
 overflow_cast-i c = omega (arith, there _ _ c.record_at-record.ensures (λ z. omega arith))
 
-pub overflow_cast-unwrap_or : goal.overflow_cast-unwrap_or
-overflow_cast-unwrap_or c =
+pub overflow_cast-place_of : goal.overflow_cast-place_of
+overflow_cast-place_of c =
     let L = ops c.args.self.now.file.s.now in
-    omega (arith, placed _ c.unwrap_or.ensures c.target.ensures, target_in L 4096 (omega (arith, ops-length c.args.self.now.file.s.now)) c.record_at-record.result.x)
+    omega (arith, c.place_of.ensures ∙ ap or_zero c.target.ensures, target_in L 4096 (omega (arith, ops-length c.args.self.now.file.s.now)) c.record_at-record.result.x)
 
-pub overflow_cast-unwrap_or-in-7 : goal.overflow_cast-unwrap_or-in-7
-overflow_cast-unwrap_or-in-7 c =
+pub overflow_cast-place_of-in-7 : goal.overflow_cast-place_of-in-7
+overflow_cast-place_of-in-7 c =
     let r = c.record_at-record.result in
     let L = ops c.args.self.now.file.s.now in
-    omega (arith, placed _ c.unwrap_or-in-7.ensures c.target2.ensures, target2_in L 4096 (omega (arith, ops-length c.args.self.now.file.s.now)) r.x r.y)
+    omega (arith, c.place_of-in-7.ensures ∙ ap or_zero c.target2.ensures, target2_in L 4096 (omega (arith, ops-length c.args.self.now.file.s.now)) r.x r.y)
 
 pub returns : goal.returns
 unfolding group labelled
@@ -35,8 +35,8 @@ returns c =
     let becomes : group Labels c.args.self.now.file.s.now c.args.i ≡ c.match-record.put_record ∷ [] =
     elim c.match-record.branch [
       | in-5 w ↦ grind arith
-      | in-6 w ↦ grind (arith, placed _ w.unwrap_or.ensures w.target.ensures)
-      | in-7 w ↦ grind (arith, placed _ w.unwrap_or-in-7.ensures w.target2.ensures)
+      | in-6 w ↦ grind (arith, w.place_of.ensures ∙ ap or_zero w.target.ensures)
+      | in-7 w ↦ grind (arith, w.place_of-in-7.ensures ∙ ap or_zero w.target2.ensures)
       | in_default w ↦ grind arith
     ]
     in
