@@ -32,14 +32,14 @@ returns-then-eq c =
 
 pub loop-preserved : goal.loop-preserved
 loop-preserved c =
-    let a = c.args in let v = c.loop in
-    let s = sym (entry_bytes a.l.now a.name.now v.e c.if-e-eq0.false c.if-count-e.false) ∙ sym c.eq.ensures ∙ c.if-eq.false in
-    let z : length a.l.now / 16 - v.counter - 1 ≡ length a.l.now / 16 - (v.counter + 1) = omega arith in
-    let n = along_on (entries a.l.now) a.next.now a.name.now (length a.l.now / 16 - v.counter) v.e (omega arith) c.if-e-eq0.false (omega arith) s in
-    record { many = v.invariant.many; left = v.invariant.left ∙ n ∙ rw (z, c.number_in-e.ensures) }
+    let a = c.args in let u = c.loop in
+    let s = sym (entry_bytes a.l.now a.name.now u.e c.if-e-eq0.false c.if-count-e.false) ∙ sym c.eq.ensures ∙ c.if-eq.false in
+    let z : length a.l.now / 16 - u.counter - 1 ≡ length a.l.now / 16 - (u.counter + 1) = omega arith in
+    let n = along_on (entries a.l.now) a.next.now a.name.now (length a.l.now / 16 - u.counter) u.e (omega arith) c.if-e-eq0.false (omega arith) s in
+    record { many = u.invariant.many; left = u.invariant.left ∙ n ∙ rw (z, c.number_in-e.ensures) }
 
 pub returns : goal.returns
 returns c =
-    let a = c.args in let v = c.loop in
-    let z : length a.l.now / 16 - v.counter ≡ 0 = omega arith in
-    sym (ap found (v.invariant.left ∙ ap (λ m. along m (entries a.l.now) a.next.now a.name.now v.e) z ∙ along-end (entries a.l.now) a.next.now a.name.now v.e))
+    let a = c.args in let l = c.loop in
+    let z : length a.l.now / 16 - l.counter ≡ 0 = omega arith in
+    sym (ap found (l.invariant.left ∙ ap (λ m. along m (entries a.l.now) a.next.now a.name.now l.e) z ∙ along-end (entries a.l.now) a.next.now a.name.now l.e))
